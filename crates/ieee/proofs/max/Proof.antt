@@ -1,0 +1,19 @@
+use Rattle.ieee.proofs.max.Statement.{statement}
+use Rattle.ieee.proofs.max.Tie as tie
+use Rattle.ieee.proofs.max.Reads as reads
+use Rattle.ieee.proofs.max.Lts as lts
+
+-- src/lib.rt:65:9
+returns : tie.Need-returns
+returns c = ?
+
+-- src/lib.rt:68:9
+returns-2 : tie.Need-returns-2
+returns-2 c = ?
+
+-- src/lib.rt:61:1
+returns-3 : tie.Need-returns-3
+returns-3 c = ?
+
+pub max-spec : {M : Type 1} → statement M
+max-spec = tie.close (tie.spec returns returns-2 returns-3)

@@ -1,0 +1,19 @@
+use Rattle.ieee.proofs.min.Statement.{statement}
+use Rattle.ieee.proofs.min.Tie as tie
+use Rattle.ieee.proofs.min.Reads as reads
+use Rattle.ieee.proofs.min.Lts as lts
+
+-- src/lib.rt:53:9
+returns : tie.Need-returns
+returns c = ?
+
+-- src/lib.rt:56:9
+returns-2 : tie.Need-returns-2
+returns-2 c = ?
+
+-- src/lib.rt:49:1
+returns-3 : tie.Need-returns-3
+returns-3 c = ?
+
+pub min-spec : {M : Type 1} → statement M
+min-spec = tie.close (tie.spec returns returns-2 returns-3)

@@ -1,0 +1,3 @@
+pub mod Basic
+pub mod Narrow
+pub mod Sqrt
