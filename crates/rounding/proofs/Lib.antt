@@ -1,2 +1,4 @@
 pub mod Numbers
 pub mod Neighbours
+pub mod Values
+pub mod Located

@@ -7,12 +7,7 @@ use native.Mathlib.Nat.{le-trans, le-of-eq, not-le-of-lt, mul-comm, mul-right-co
 use native.Mathlib.Omega.{arith}
 use mathlib.Core.Bool.{Bool, true, false}
 use Rattle.rounding.specs.Meaning.{Number, atMost, atLeast, Closer}
-use Rattle.rounding.proofs.Numbers.{Lawful}
-
--- two numbers that are not the same: of one sign they differ in size, of two signs they are not both zero
-abbrev pub Differ : Bool → ℕ → ℕ → Type 0
-Differ false r w = r ≡ w → ⊥
-Differ true r w = 0 < r + w
+use Rattle.rounding.proofs.Numbers.{Lawful, Differ}
 
 module _ (v : Number) (law : Lawful v) (A B l : ℕ) (L : 0 < l) (step : A < B) (lo : atLeast v A l) (hi : atMost v B l) where
   -- r is A, and v is not beyond the middle, or r is B, and v is not before it; in the middle E holds

@@ -1,7 +1,7 @@
 -- How a number compares with fractions: three laws, which a fraction and a root have, and what follows from them alone. Assumes nothing.
 use mathlib.Core.Path.{_≡_, refl, sym, ap, _∙_, subst}
 use Prim.Native.Nat.{ℕ, suc, _+_, _-_, _*_, _≤_, _<_}
-use native.Mathlib.Nat.{le-trans, le-of-eq, lt-of-lt-of-le, lt-of-le-of-lt, lt-of-not-le, not-le-of-lt, lt-irrefl, mul-comm, mul-assoc, mul-left-comm, mul-mul-mul-comm, mul-le-mul-right, mul-lt-mul-of-pos-right, le-of-mul-le-mul-right, lt-of-mul-lt-mul-right, mul-pos, add-mul, mul-sub, zero-mul, le-of-suc-le-suc}
+use native.Mathlib.Nat.{le-trans, le-of-eq, lt-of-lt-of-le, lt-of-le-of-lt, lt-of-not-le, not-le-of-lt, lt-irrefl, mul-comm, mul-assoc, mul-left-comm, mul-mul-mul-comm, mul-le-mul-right, mul-lt-mul-of-pos-right, le-of-mul-le-mul-right, eq-of-mul-eq-mul-right, lt-of-mul-lt-mul-right, mul-pos, add-mul, mul-sub, zero-mul, le-of-suc-le-suc}
 use native.Mathlib.Omega.{arith}
 use mathlib.Core.Bool.{Bool, true, false}
 use lib.Ieee.Positive.{through}
@@ -77,3 +77,12 @@ module _ (v : Number) (law : Lawful v) (a b c r w l : ℕ) (C : 0 < c) (L : 0 < 
   closer-over true false h = λ (g : 0 < a + b). let k = h (same-less c l 0 0 (a + b) (r + w) (zero-mul l ∙ sym (zero-mul c)) (same-sum c l a r b w e f) L g) in
     (same-le c l a r b w e f L (k .0), half-raise (b - a) (w - r) (same-difference c l b w a r f e) (k .1))
   closer-over true true h = same-le c l a r b w e f L h
+
+-- ---- two numbers that are not the same: of one sign they differ in size, of two signs they are not both zero
+abbrev pub Differ : Bool → ℕ → ℕ → Type 0
+Differ false a b = a ≡ b → ⊥
+Differ true a b = 0 < a + b
+
+pub differ-over : (c l a r b w : ℕ) → 0 < l → Same c l a r → Same c l b w → (t : Bool) → Differ t a b → Differ t r w
+differ-over c l a r b w L e f false d = λ (g : r ≡ w). d (eq-of-mul-eq-mul-right l L a b (e ∙ ap (λ (z : ℕ). z * c) g ∙ sym f))
+differ-over c l a r b w L e f true d = same-less c l 0 0 (a + b) (r + w) (zero-mul l ∙ sym (zero-mul c)) (same-sum c l a r b w e f) L d
