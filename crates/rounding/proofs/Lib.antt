@@ -2,3 +2,4 @@ pub mod Numbers
 pub mod Neighbours
 pub mod Values
 pub mod Located
+pub mod Rounds
