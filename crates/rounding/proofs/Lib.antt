@@ -3,3 +3,4 @@ pub mod Neighbours
 pub mod Values
 pub mod Located
 pub mod Rounds
+pub mod Unique

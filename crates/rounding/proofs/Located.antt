@@ -30,8 +30,13 @@ pub record Located (f : Format) (v : Number) (q k : ℕ) (o : Ordering) : Type 0
   pub most : atMost v (suc q * 2 ^ k) (2 ^ low f)
   pub middle : Cmp o (v .left (2 * 2 ^ low f)) (v .right (q * 2 ^ k + suc q * 2 ^ k))
 
+-- a number that is no smaller has all the digits too
+pub all-digits : (f : Format) (q k n : ℕ) → q ≤ n → (hid f ≤ q) ⊎ (k ≡ 0) → (hid f ≤ n) ⊎ (k ≡ 0)
+all-digits f q k n h (inl g) = inl (le-trans g h)
+all-digits f q k n h (inr e) = inr e
+
 module _ (f : Format) (v : Number) (law : Lawful v) (q k : ℕ) (o : Ordering) (at : Located f v q k o) where
-  step : q * 2 ^ k < suc q * 2 ^ k
+  pub step : q * 2 ^ k < suc q * 2 ^ k
   step = let e = suc-mul q (2 ^ k) in let p = pow-pos k in omega arith
 
   -- ---- what `nearest` takes
@@ -44,10 +49,10 @@ module _ (f : Format) (v : Number) (law : Lawful v) (q k : ℕ) (o : Ordering) (
   odd-step : q % 2 ≡ 1 → q + q % 2 ≡ suc q
   odd-step z = omega arith
 
-  abbrev Is : ℕ → Type 0
+  abbrev pub Is : ℕ → Type 0
   Is n = Taken v law (q * 2 ^ k) (suc q * 2 ^ k) (2 ^ low f) (pow-pos (low f)) step (at .least) (at .most) (n * 2 ^ k) (n % 2 ≡ 0)
 
-  taken : Is (nearest q o)
+  pub taken : Is (nearest q o)
   taken = go o (at .middle)
     where
       go : (o : Ordering) → Cmp o (v .left (2 * 2 ^ low f)) (v .right (q * 2 ^ k + suc q * 2 ^ k)) → Is (nearest q o)
@@ -165,19 +170,19 @@ module _ (f : Format) (v : Number) (law : Lawful v) (q k : ℕ) (o : Ordering) (
 
   -- ---- the value
   module _ (s : Bool) where
-    abbrev x : Float
+    abbrev pub x : Float
     x = units f s (nearest q o) k
 
-    abbrev r : ℕ
+    abbrev pub r : ℕ
     r = nearest q o * 2 ^ k
 
     kept-le : nearest q o ≤ 2 ^ prec f
     kept-le = le-trans (nearest-le q o) (at .small)
 
-    has-value : r < overflow f → HasValue x s r (2 ^ low f)
+    pub has-value : r < overflow f → HasValue x s r (2 ^ low f)
     has-value = units-val f s (nearest q o) k
 
-    under : T (finite x) → r < overflow f
+    pub under : T (finite x) → r < overflow f
     under t = go (split-le (suc r) (overflow f))
       where
         go : (suc r ≤ overflow f) ⊎ (overflow f < suc r) → r < overflow f
@@ -216,15 +221,11 @@ module _ (f : Format) (v : Number) (law : Lawful v) (q k : ℕ) (o : Ordering) (
 
       even-tie : T (ne x y) → Nearer v s y x → toBits f x % 2 ≡ 0
       even-tie n c =
-          ap (λ (z : ℕ). z % 2) (bits-of-finite f x s (nearest q o) k kept-le (all-digits (at .full)) (has-value (under t)))
+          ap (λ (z : ℕ). z % 2) (bits-of-finite f x s (nearest q o) k kept-le (all-digits f q k (nearest q o) (nearest-ge q o) (at .full)) (has-value (under t)))
           ∙ last-digit f s k (nearest q o)
           ∙ tie v law (q * 2 ^ k) (suc q * 2 ^ k) (2 ^ low f) (pow-pos (low f)) step (at .least) (at .most) r (nearest q o % 2 ≡ 0) taken w outside (unlike s (sign y))
           (subst (λ (b : Bool). Differ (unlike b (sign y)) r w) has-sign (units-differ v law (2 ^ low f) r w (pow-pos (low f)) x y x-units y-units t u n))
           (subst (λ (b : Bool). Closer v (unlike s (sign y)) w b r (2 ^ low f)) own-side (units-of-nearer v law (2 ^ low f) w r (pow-pos (low f)) y x y-units x-units s c))
-        where
-          all-digits : (hid f ≤ q) ⊎ (k ≡ 0) → (hid f ≤ nearest q o) ⊎ (k ≡ 0)
-          all-digits (inl h) = inl (le-trans h (nearest-ge q o))
-          all-digits (inr e) = inr e
 
     pub located-rounded : Rounded f s v x
     located-rounded = record {

@@ -53,19 +53,37 @@ module _ (v : Number) (law : Lawful v) (A B l : ℕ) (L : 0 < l) (step : A < B) 
   near r E (inl k) w h t = subst (λ (z : ℕ). Closer v false z t w l) (sym (k .0)) (near-A (k .1) w h t)
   near r E (inr k) w h t = subst (λ (z : ℕ). Closer v false z t w l) (sym (k .0)) (near-B (k .1) w h t)
 
-  -- ---- where another is as near, v is in the middle
+  -- ---- where another is as near, v is in the middle, and that other is the other neighbour
+  past-A : (w : ℕ) → (w ≤ A) ⊎ (B ≤ w) → (A ≡ w → ⊥) → Closer v false w false A l → (B ≤ w) × Low (w + A)
+  unfolding Closer
+  past-A w (inl h) d c = absurd (let k : 2 * A ≤ w + A = order (2 * A) (w + A) from (c .0 (omega arith)) in omega arith)
+  past-A w (inr h) d c = (h, c .1 (omega arith))
+
+  before-B : (w : ℕ) → (w ≤ A) ⊎ (B ≤ w) → (B ≡ w → ⊥) → Closer v false w false B l → (w ≤ A) × High (w + B)
+  unfolding Closer
+  before-B w (inl h) d c = (h, c .0 (omega arith))
+  before-B w (inr h) d c = absurd (let k : w + B ≤ 2 * B = order (w + B) (2 * B) (c .1 (omega arith)) to in omega arith)
+
   tie-A : (w : ℕ) → (w ≤ A) ⊎ (B ≤ w) → (t : Bool) → Differ t A w → Closer v t w false A l → Low (A + B)
   unfolding Closer
-  tie-A w (inl h) false d c = absurd (let k : 2 * A ≤ w + A = order (2 * A) (w + A) from (c .0 (omega arith)) in omega arith)
-  tie-A w (inr h) false d c = lower (w + A) (A + B) (omega arith) (c .1 (omega arith))
+  tie-A w h false d c = let p = past-A w h d c in lower (w + A) (A + B) (omega arith) (p .1)
   tie-A w h true d c = let g = c (omega arith) in absurd (let k : 2 * A ≤ A - w = order (2 * A) (A - w) from (g .1) in omega arith)
 
   tie-B : (w : ℕ) → (w ≤ A) ⊎ (B ≤ w) → (t : Bool) → Differ t B w → Closer v t w false B l → High (A + B)
   unfolding Closer
-  tie-B w (inl h) false d c = raise (w + B) (A + B) (omega arith) (c .0 (omega arith))
-  tie-B w (inr h) false d c = absurd (let k : w + B ≤ 2 * B = order (w + B) (2 * B) (c .1 (omega arith)) to in omega arith)
+  tie-B w h false d c = let p = before-B w h d c in raise (w + B) (A + B) (omega arith) (p .1)
   tie-B w h true d c = raise (B - w) (A + B) (omega arith) (c (omega arith) .1)
 
   pub tie : (r : ℕ) (E : Type 0) → Taken r E → (w : ℕ) → (w ≤ A) ⊎ (B ≤ w) → (t : Bool) → Differ t r w → Closer v t w false r l → E
   tie r E (inl k) w h t d c = k .2 (tie-A w h t (subst (λ (z : ℕ). Differ t z w) (k .0) d) (subst (λ (z : ℕ). Closer v t w false z l) (k .0) c))
   tie r E (inr k) w h t d c = k .2 (tie-B w h t (subst (λ (z : ℕ). Differ t z w) (k .0) d) (subst (λ (z : ℕ). Closer v t w false z l) (k .0) c))
+
+  pub other : (r : ℕ) (E : Type 0) → Taken r E → (w : ℕ) → (w ≤ A) ⊎ (B ≤ w) → (r ≡ w → ⊥) → Closer v false w false r l → ((r ≡ A) × (w ≡ B)) ⊎ ((r ≡ B) × (w ≡ A))
+  other r E (inl k) w h d c =
+      let p = past-A w h (subst (λ (z : ℕ). z ≡ w → ⊥) (k .0) d) (subst (λ (z : ℕ). Closer v false w false z l) (k .0) c) in
+      let g : w + A ≤ A + B = order (w + A) (A + B) (p .1) (k .1) in
+      inl (k .0, omega arith)
+  other r E (inr k) w h d c =
+      let p = before-B w h (subst (λ (z : ℕ). z ≡ w → ⊥) (k .0) d) (subst (λ (z : ℕ). Closer v false w false z l) (k .0) c) in
+      let g : A + B ≤ w + B = order (A + B) (w + B) (k .1) (p .1) in
+      inr (k .0, omega arith)

@@ -5,9 +5,9 @@ use mathlib.Core.Logic.{_⊎_, inl, inr}
 use Prim.Native.Nat.{ℕ, zero, suc, _+_, _-_, _*_, _/_, _%_, _^_, _≤_, _<_}
 use native.Mathlib.Nat.{le-trans, le-of-eq, le-of-lt, lt-of-lt-of-le, lt-of-le-of-lt, lt-of-not-le, lt-irrefl, lt-suc-self, eq-zero-or-pos, mul-one, mul-comm, mul-assoc, mul-left-comm, pow-succ', mul-pos, mul-le-mul-right, mul-right-comm, zero-mul, le-div-iff-mul-le}
 use native.Mathlib.Omega.{arith}
-use mathlib.Core.Bool.{Bool, true, false, not, _&&_, cond}
+use mathlib.Core.Bool.{Bool, true, false, not, _&&_, _||_, Bool·beq, cond}
 use lib.IntN.{ℤ, pos, negsuc}
-use lib.Dec.{T, leb, ltb, eqb, leb→le, nleb→lt, ltb→lt, T-not}
+use lib.Dec.{T, leb, ltb, eqb, leb→le, nleb→lt, ltb→lt, T-not, not-T, eqb→eq}
 use lib.Pow.{pow-add, pow-pos, pow-mono, pow-lt}
 use lib.Ieee.{Float, nan, inf, fin, Format, prec, emax, low, up, down, size, fits, hid, ones, top, ofBits, unlike, level, ne}
 use lib.Ieee.Digits.{size-reaches}
@@ -163,6 +163,15 @@ differ (fin s m e) nan fx fy n = absurd fy
 differ (fin s m e) (inf t) fx fy n = absurd fy
 differ (fin s m e) (fin t k d) fx fy n = level-differ s t (m * up e * down d) (k * up d * down e) n
 
+pub ne-of : (x y : Float) → T (finite x) → T (finite y) → (num x * den y ≡ num y * den x → ⊥) → T (ne x y)
+unfolding ne
+ne-of nan y fx fy n = absurd fx
+ne-of (inf s) y fx fy n = absurd fx
+ne-of (fin s m e) nan fx fy n = absurd fy
+ne-of (fin s m e) (inf t) fx fy n = absurd fy
+ne-of (fin s m e) (fin t k d) fx fy n =
+    not-T (level s (m * up e * down d) t (k * up d * down e)) (λ g. n (eqb→eq (m * up e * down d) (k * up d * down e) (and-l (eqb (m * up e * down d) (k * up d * down e)) (Bool·beq s t || eqb (m * up e * down d) 0) g)))
+
 -- ---- two finite values, x of r units and y of w
 module _ (v : Number) (law : Lawful v) (l r w : ℕ) (L : 0 < l) (x y : Float) (xr : num x * l ≡ r * den x) (yw : num y * l ≡ w * den y) where
   x-over : Same (den x * den y) l (num x * den y) r
@@ -184,3 +193,6 @@ module _ (v : Number) (law : Lawful v) (l r w : ℕ) (L : 0 < l) (x y : Float) (
 
   pub units-differ : T (finite x) → T (finite y) → T (ne x y) → Differ (unlike (sign x) (sign y)) r w
   units-differ fx fy n = differ-over (den x * den y) l (num x * den y) r (num y * den x) w L x-over y-over (unlike (sign x) (sign y)) (differ x y fx fy n)
+
+  pub different : T (finite x) → T (finite y) → (r ≡ w → ⊥) → T (ne x y)
+  different fx fy n = ne-of x y fx fy (differ-over l (den x * den y) r (num x * den y) w (num y * den x) both-pos (sym x-over) (sym y-over) false n)
