@@ -4,3 +4,4 @@ pub mod Values
 pub mod Located
 pub mod Rounds
 pub mod Unique
+pub mod Meets

@@ -16,6 +16,7 @@ use Rattle.rounding.specs.Meaning.{Number, fraction, root, Rounded}
 use Rattle.rounding.proofs.Numbers.{fraction-lawful, root-lawful}
 use Rattle.rounding.proofs.Values.{kept-full}
 use Rattle.rounding.proofs.Located.{Located, located-rounded}
+use Rattle.rounding.proofs.Unique.{located-unique}
 
 -- ---- the fraction
 same-order : (o : Ordering) (a b c d : ℕ) → a ≡ b → c ≡ d → Cmp o b d → Cmp o a c
@@ -62,6 +63,9 @@ module _ (f : Format) (num den : ℕ) (D : 0 < den) where
   pub round-rounded : (s : Bool) → Rounded f s (fraction num den) (round f s num den)
   round-rounded s = subst (Rounded f s (fraction num den)) (sym (round-is f s num den)) (located-rounded f (fraction num den) (fraction-lawful num den D) (n / u) k (compare (n % u * 2) u) fraction-located s)
 
+  pub rounded-is-round : (s : Bool) (x : Float) → Rounded f s (fraction num den) x → x ≡ round f s num den
+  rounded-is-round s x h = located-unique f (fraction num den) (fraction-lawful num den D) (n / u) k (compare (n % u * 2) u) fraction-located s x h ∙ sym (round-is f s num den)
+
 -- ---- the root
 module _ (f : Format) (num den : ℕ) (D : 0 < den) where
   -- the root squared, in units squared
@@ -96,3 +100,6 @@ module _ (f : Format) (num den : ℕ) (D : 0 < den) where
 
   pub rootOf-rounded : Rounded f false (root num den) (rootOf f num den)
   rootOf-rounded = subst (Rounded f false (root num den)) (sym (is-units f num den)) (located-rounded f (root num den) (root-lawful num den D) q p (order f num den) root-located false)
+
+  pub rounded-is-rootOf : (x : Float) → Rounded f false (root num den) x → x ≡ rootOf f num den
+  rounded-is-rootOf x h = located-unique f (root num den) (root-lawful num den D) q p (order f num den) root-located false x h ∙ sym (is-units f num den)

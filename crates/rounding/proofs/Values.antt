@@ -3,7 +3,7 @@
 use mathlib.Core.Path.{_≡_, refl, sym, ap, _∙_, subst}
 use mathlib.Core.Logic.{_⊎_, inl, inr}
 use Prim.Native.Nat.{ℕ, zero, suc, _+_, _-_, _*_, _/_, _%_, _^_, _≤_, _<_}
-use native.Mathlib.Nat.{le-trans, le-of-eq, le-of-lt, lt-of-lt-of-le, lt-of-le-of-lt, lt-of-not-le, lt-irrefl, lt-suc-self, eq-zero-or-pos, mul-one, mul-comm, mul-assoc, mul-left-comm, pow-succ', mul-pos, mul-le-mul-right, mul-right-comm, zero-mul, le-div-iff-mul-le}
+use native.Mathlib.Nat.{le-trans, le-of-eq, le-antisymm, le-of-lt, lt-of-lt-of-le, lt-of-le-of-lt, lt-of-not-le, lt-irrefl, lt-suc-self, eq-zero-or-pos, mul-one, mul-comm, mul-assoc, mul-left-comm, pow-succ', mul-pos, mul-le-mul-right, mul-right-comm, zero-mul, le-div-iff-mul-le}
 use native.Mathlib.Omega.{arith}
 use mathlib.Core.Bool.{Bool, true, false, not, _&&_, _||_, Bool·beq, cond}
 use lib.IntN.{ℤ, pos, negsuc}
@@ -14,7 +14,7 @@ use lib.Ieee.Digits.{size-reaches}
 use lib.Ieee.Fits.{two, eq→eqb, and-i, and-l, and-r, down-pos}
 use lib.Ieee.Exact.{HasValue}
 use lib.Ieee.Bits.{ofBits-toBits}
-use lib.Ieee.Positive.{num, den, den-pos}
+use lib.Ieee.Positive.{num, den, den-pos, through}
 use lib.Ieee.Scale.{finite}
 use Rattle.ieee.proofs.Units.{bits-of-value}
 use Rattle.rounding.specs.Meaning.{Number, Closer, sign, Nearer}
@@ -50,6 +50,14 @@ in-units f (fin s (suc n) d) h t =
           l,
           ap (λ (z : ℕ). z * 2 ^ low f) (mul-one (suc n)) ∙ ap (λ (z : ℕ). suc n * z) (ap (λ (z : ℕ). 2 ^ z) (sym e) ∙ pow-add 2 (low f - suc a) (suc a)) ∙ sym (mul-assoc (suc n) (2 ^ (low f - suc a)) (2 ^ suc a)),
         )
+
+pub fits-under : (f : Format) (y : Float) → T (fits f y) → T (finite y) → num y < 2 ^ suc (emax f) * den y
+unfolding fits
+fits-under f nan h t = absurd t
+fits-under f (inf s) h t = absurd t
+fits-under f (fin s zero d) h t = subst (λ (z : ℕ). z < 2 ^ suc (emax f) * down d) (sym (zero-mul (up d))) (mul-pos (pow-pos (suc (emax f))) (down-pos d))
+fits-under f (fin s (suc n) d) h t =
+    ltb→lt (suc n * up d) (2 ^ suc (emax f) * down d) (and-r (eqb (suc n % 2) 1 && ltb (suc n) (2 ^ prec f) && leb (down d) (2 ^ low f)) (ltb (suc n * up d) (2 ^ suc (emax f) * down d)) h)
 
 -- ---- nothing of at most w digits lies between q * 2 ^ k and the next
 pub gap : (w q k p j : ℕ) → p < 2 ^ w → 0 < w → (2 ^ (w - 1) ≤ q) ⊎ (k ≡ 0) → (p * 2 ^ j ≤ q * 2 ^ k) ⊎ (suc q * 2 ^ k ≤ p * 2 ^ j)
@@ -114,6 +122,13 @@ pub value-of : (x : Float) (s : Bool) (a c : ℕ) → T (finite x) → sign x �
 value-of nan s a c t g e = absurd t
 value-of (inf u) s a c t g e = absurd t
 value-of (fin u m d) s a c t g e = (g, e)
+
+-- by another fraction
+pub rescaled : (x : Float) (s : Bool) (a c w l : ℕ) → 0 < c → a * l ≡ w * c → HasValue x s a c → HasValue x s w l
+rescaled x s a c w l C e v =
+    let g = value-cross x s a c v in
+    value-of x s w l (value-finite x s a c v) (value-sign x s a c v)
+    (le-antisymm (through (num x) a w (den x) c l C (le-of-eq g) (le-of-eq e)) (through w a (num x) l c (den x) C (le-of-eq (sym e)) (le-of-eq (sym g))))
 
 -- ---- the lowest bit of a pattern is that of the digits
 pub last-digit : (f : Format) (s : Bool) (k n : ℕ) → (cond s (top f) 0 + (k * hid f + n)) % 2 ≡ n % 2
