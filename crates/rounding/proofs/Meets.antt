@@ -17,7 +17,7 @@ use Rattle.ieee.specs.Narrow.{narrowOf}
 use Rattle.ieee.specs.Sqrt.{rootOf, sqrtOf}
 use Rattle.rounding.specs.Meaning.{fraction, root, below, sign, last, largest, Rounded}
 use Rattle.rounding.specs.Meets.{Meets}
-use Rattle.rounding.proofs.Values.{in-units, fits-under, one-value, rescaled}
+use Rattle.rounding.proofs.Values.{in-units, fits-under, units-under, one-value, rescaled}
 use Rattle.rounding.proofs.Rounds.{round-rounded, rounded-is-round, rootOf-rounded, rounded-is-rootOf}
 
 -- ---- narrowing
@@ -32,13 +32,9 @@ round-own : (f : Format) (s : Bool) (m : ℕ) (e : ℤ) → T (fits f (fin s m e
 round-own f s m e h =
     let d = in-units f (fin s m e) h tt in
     let w = d .0 * 2 ^ d .1 in
-    let a : w * down e < 2 ^ (low f + suc (emax f)) * down e =
-    lt-of-le-of-lt (le-of-eq (sym (d .3)))
-    (lt-of-lt-of-le (mul-lt-mul-of-pos-right (fits-under f (fin s m e) h tt) (pow-pos (low f)))
-    (le-of-eq (mul-right-comm (2 ^ suc (emax f)) (down e) (2 ^ low f) ∙ ap (λ (z : ℕ). z * down e) (mul-comm (2 ^ suc (emax f)) (2 ^ low f) ∙ sym (pow-add 2 (low f) (suc (emax f))))))) in
     one-value f (round f s (m * up e) (down e)) (fin s m e) s w (round-fits f s (m * up e) (down e)) h
     (rescaled (round f s (m * up e) (down e)) s (m * up e) (down e) w (2 ^ low f) (down-pos e) (d .3)
-    (round-exact f s (m * up e) (down e) (d .0) (d .1) (down-pos e) (d .2) (lt-of-mul-lt-mul-right (down e) a) (d .3)))
+    (round-exact f s (m * up e) (down e) (d .0) (d .1) (down-pos e) (d .2) (units-under f (fin s m e) w h tt (d .3)) (d .3)))
     (refl, d .3)
 
 widen-narrow : (x : Float) → T (fits binary32 x) → narrowOf (widenOf x) ≡ x

@@ -15,7 +15,8 @@ use Rattle.ieee.proofs.Roots.{whole, dropped, order, is-units}
 use Rattle.rounding.specs.Meaning.{Number, fraction, root, Rounded}
 use Rattle.rounding.proofs.Numbers.{fraction-lawful, root-lawful}
 use Rattle.rounding.proofs.Values.{kept-full}
-use Rattle.rounding.proofs.Located.{Located, located-rounded}
+use Rattle.rounding.proofs.Located.{Located}
+use Rattle.rounding.proofs.LocatedRounded.{located-rounded}
 use Rattle.rounding.proofs.Unique.{located-unique}
 
 -- ---- the fraction

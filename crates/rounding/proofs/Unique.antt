@@ -18,7 +18,8 @@ use Rattle.rounding.specs.Meaning.{Number, atMost, atLeast, below, Close
 use Rattle.rounding.proofs.Numbers.{Lawful}
 use Rattle.rounding.proofs.Neighbours.{other}
 use Rattle.rounding.proofs.Values.{split-le, in-units, gap, value-of, value-cross, one-value, unlike-self, units-of-nearer, different, last-digit}
-use Rattle.rounding.proofs.Located.{Located, all-digits, step, taken, under, has-value, located-rounded}
+use Rattle.rounding.proofs.Located.{Located, all-digits, step, taken}
+use Rattle.rounding.proofs.LocatedRounded.{under, has-value, located-rounded}
 
 module _ (f : Format) (v : Number) (law : Lawful v) (q k : ℕ) (o : Ordering) (at : Located f v q k o) (s : Bool) where
   abbrev z : Float

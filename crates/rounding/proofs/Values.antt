@@ -3,7 +3,7 @@
 use mathlib.Core.Path.{_≡_, refl, sym, ap, _∙_, subst}
 use mathlib.Core.Logic.{_⊎_, inl, inr}
 use Prim.Native.Nat.{ℕ, zero, suc, _+_, _-_, _*_, _/_, _%_, _^_, _≤_, _<_}
-use native.Mathlib.Nat.{le-trans, le-of-eq, le-antisymm, le-of-lt, lt-of-lt-of-le, lt-of-le-of-lt, lt-of-not-le, lt-irrefl, lt-suc-self, eq-zero-or-pos, mul-one, mul-comm, mul-assoc, mul-left-comm, pow-succ', mul-pos, mul-le-mul-right, mul-right-comm, zero-mul, le-div-iff-mul-le}
+use native.Mathlib.Nat.{le-trans, le-of-eq, le-antisymm, le-of-lt, lt-of-lt-of-le, lt-of-le-of-lt, lt-of-not-le, lt-irrefl, lt-suc-self, eq-zero-or-pos, mul-one, mul-comm, mul-assoc, mul-left-comm, pow-succ', mul-pos, lt-of-mul-lt-mul-right, mul-lt-mul-of-pos-right, mul-le-mul-right, mul-right-comm, zero-mul, le-div-iff-mul-le}
 use native.Mathlib.Omega.{arith}
 use mathlib.Core.Bool.{Bool, true, false, not, _&&_, _||_, Bool·beq, cond}
 use lib.IntN.{ℤ, pos, negsuc}
@@ -15,7 +15,7 @@ use lib.Ieee.Fits.{two, eq→eqb, and-i, and-l, and-r, down-pos}
 use lib.Ieee.Exact.{HasValue}
 use lib.Ieee.Bits.{ofBits-toBits}
 use lib.Ieee.Positive.{num, den, den-pos, through}
-use lib.Ieee.Scale.{finite}
+use lib.Ieee.Scale.{finite, overflow}
 use Rattle.ieee.proofs.Units.{bits-of-value}
 use Rattle.rounding.specs.Meaning.{Number, Closer, sign, Nearer}
 use Rattle.rounding.proofs.Numbers.{Lawful, Same, closer-over, Differ, differ-over}
@@ -58,6 +58,13 @@ fits-under f (inf s) h t = absurd t
 fits-under f (fin s zero d) h t = subst (λ (z : ℕ). z < 2 ^ suc (emax f) * down d) (sym (zero-mul (up d))) (mul-pos (pow-pos (suc (emax f))) (down-pos d))
 fits-under f (fin s (suc n) d) h t =
     ltb→lt (suc n * up d) (2 ^ suc (emax f) * down d) (and-r (eqb (suc n % 2) 1 && ltb (suc n) (2 ^ prec f) && leb (down d) (2 ^ low f)) (ltb (suc n * up d) (2 ^ suc (emax f) * down d)) h)
+
+pub units-under : (f : Format) (y : Float) (w : ℕ) → T (fits f y) → T (finite y) → num y * 2 ^ low f ≡ w * den y → w < overflow f
+units-under f y w h t e =
+    lt-of-mul-lt-mul-right (den y)
+    (lt-of-le-of-lt (le-of-eq (sym e))
+    (lt-of-lt-of-le (mul-lt-mul-of-pos-right (fits-under f y h t) (pow-pos (low f)))
+    (le-of-eq (mul-right-comm (2 ^ suc (emax f)) (den y) (2 ^ low f) ∙ ap (λ (z : ℕ). z * den y) (mul-comm (2 ^ suc (emax f)) (2 ^ low f) ∙ sym (pow-add 2 (low f) (suc (emax f))))))))
 
 -- ---- nothing of at most w digits lies between q * 2 ^ k and the next
 pub gap : (w q k p j : ℕ) → p < 2 ^ w → 0 < w → (2 ^ (w - 1) ≤ q) ⊎ (k ≡ 0) → (p * 2 ^ j ≤ q * 2 ^ k) ⊎ (suc q * 2 ^ k ≤ p * 2 ^ j)

@@ -46,6 +46,11 @@ Closer v false a true b c = atLeast v (a - b) (2 * c)
 Closer v true a false b c = 0 < a + b → (a ≤ b) × atMost v (b - a) (2 * c)
 Closer v true a true b c = a ≤ b
 
+-- How far apart the numbers x and y are, or x and -y where q is true. Of a fraction, `Closer` is the order of two distances: proofs/Distance.antt.
+abbrev pub distance : Bool → ℕ → ℕ → ℕ
+distance false x y = x - y + (y - x)
+distance true x y = x + y
+
 abbrev pub sign : Float → Bool
 sign nan = false
 sign (inf s) = s
