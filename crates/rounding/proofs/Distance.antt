@@ -1,7 +1,7 @@
 -- Of a fraction, `Closer` is the order of the two distances, so the definition says what its name does. Assumes nothing.
 use mathlib.Core.Path.{_≡_, sym, ap, _∙_}
 use mathlib.Core.Logic.{_⊎_, inl, inr}
-use Prim.Native.Nat.{ℕ, suc, _+_, _-_, _*_, _≤_, _<_}
+use Prim.Native.Nat.{ℕ, _+_, _-_, _*_, _≤_, _<_}
 use native.Mathlib.Nat.{le-antisymm, mul-comm, mul-left-comm, mul-sub, add-mul, mul-le-mul-right, mul-lt-mul-of-pos-right, le-of-mul-le-mul-right, mul-pos, zero-mul, eq-zero-or-pos}
 use native.Mathlib.Omega.{arith}
 use mathlib.Core.Bool.{Bool, true, false}
@@ -55,8 +55,8 @@ module _ (n d a b c : ℕ) (D : 0 < d) where
   closer-of-distance false true h = let e = double in let g = difference a b in omega arith
   closer-of-distance true false h =
       λ (i : 0 < a + b).
-          let s = sum in
-          let l : 0 < (a + b) * d = mul-pos i D in
-          let k : x ≤ y = omega arith in
-          (le-of-mul-le-mul-right k D, let e = double in let g = difference b a in omega arith)
+      let s = sum in
+      let l : 0 < (a + b) * d = mul-pos i D in
+      let k : x ≤ y = omega arith in
+      (le-of-mul-le-mul-right k D, let e = double in let g = difference b a in omega arith)
   closer-of-distance true true h = let k : x ≤ y = omega arith in le-of-mul-le-mul-right k D

@@ -1,8 +1,8 @@
 -- The largest finite value of a format, and the limit half a unit of its last digit above, in units of the format's smallest value. Assumes nothing.
-use mathlib.Core.Path.{_≡_, refl, sym, ap, _∙_, subst}
+use mathlib.Core.Path.{_≡_, sym, ap, _∙_}
 use mathlib.Core.Logic.{_⊎_, inl, inr}
 use Prim.Native.Nat.{ℕ, suc, _+_, _-_, _*_, _^_, _≤_, _<_}
-use native.Mathlib.Nat.{le-trans, le-of-eq, lt-of-lt-of-le, lt-of-le-of-lt, lt-of-not-le, not-le-of-lt, mul-comm, mul-assoc, mul-left-comm, mul-right-comm, mul-one, mul-le-mul-right, mul-lt-mul-of-pos-right, le-of-mul-le-mul-right, lt-of-mul-lt-mul-right, suc-mul, add-mul, sub-le}
+use native.Mathlib.Nat.{le-trans, le-of-eq, lt-of-lt-of-le, not-le-of-lt, mul-comm, mul-assoc, mul-left-comm, mul-right-comm, mul-one, mul-le-mul-right, le-of-mul-le-mul-right, suc-mul, add-mul, sub-le}
 use native.Mathlib.Omega.{arith}
 use mathlib.Core.Bool.{false}
 use lib.Dec.{T}
@@ -10,8 +10,8 @@ use lib.Pow.{pow-add, pow-pos, pow-mono}
 use lib.Ieee.{Float, Format, prec, emax, low, units, fits, hid}
 use lib.Ieee.Fits.{two, reach, two-le-pos}
 use lib.Ieee.Exact.{HasValue, units-val}
-use lib.Ieee.Positive.{num, den, den-pos}
-use lib.Ieee.Scale.{finite, overflow}
+use lib.Ieee.Positive.{num, den}
+use lib.Ieee.Scale.{finite}
 use Rattle.ieee.proofs.Units.{units-fits, twice-hid, overflow-is}
 use Rattle.rounding.specs.Meaning.{last, largest}
 use Rattle.rounding.proofs.Values.{in-units, units-under, gap, rescaled}

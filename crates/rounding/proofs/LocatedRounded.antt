@@ -1,7 +1,7 @@
 -- The value that `nearest` takes for a located number is that number rounded to the format. Assumes nothing.
 use mathlib.Core.Path.{_≡_, sym, ap, _∙_, subst}
 use mathlib.Core.Logic.{_⊎_, inl, inr}
-use Prim.Native.Nat.{ℕ, suc, _+_, _*_, _%_, _^_, _≤_, _<_, Ordering}
+use Prim.Native.Nat.{ℕ, suc, _*_, _%_, _^_, _≤_, _<_, Ordering}
 use native.Mathlib.Nat.{le-trans, le-of-suc-le-suc, lt-of-not-le, not-le-of-lt}
 use mathlib.Core.Bool.{Bool, false}
 use lib.Dec.{T}
@@ -85,5 +85,5 @@ module _ (f : Format) (v : Number) (law : Lawful v) (q k : ℕ) (o : Ordering) (
     infinite = λ h. units-over f s (nearest q o) k (reaches f v law q k o at h);
     bounded = λ h. value-finite x s r (2 ^ low f) (has-value (lt-of-not-le (λ (g : overflow f ≤ r). not-le-of-lt h (reached f v law q k o at g))));
     nearest = none-nearer;
-    even = even-tie
+    even = even-tie;
   }

@@ -1,22 +1,24 @@
 -- The width changes and the square root meet IEEE 754: `meets` proves the list of specs/Meets.antt. Assumes nothing.
-use mathlib.Core.Path.{_≡_, refl, sym, ap, _∙_, subst}
-use Prim.Native.Nat.{ℕ, zero, suc, _+_, _-_, _*_, _%_, _^_, _≤_, _<_}
-use native.Mathlib.Nat.{le-trans, le-of-eq, lt-of-lt-of-le, lt-of-le-of-lt, mul-assoc, mul-comm, mul-left-comm, mul-right-comm, mul-le-mul, mul-le-mul-left, mul-le-mul-right, mul-lt-mul-of-pos-right, suc-mul, lt-of-mul-lt-mul-right, zero-add, add-zero, zero-mul}
+use mathlib.Core.Path.{_≡_, refl, sym, ap, _∙_}
+use Prim.Native.Nat.{ℕ, zero, suc, _+_, _-_, _*_, _^_, _≤_, _<_}
+use native.Mathlib.Nat.{le-trans, le-of-eq, lt-of-lt-of-le, mul-right-comm, mul-le-mul, mul-le-mul-left, mul-le-mul-right, mul-lt-mul-of-pos-right, suc-mul, zero-mul}
 use native.Mathlib.Omega.{arith}
-use mathlib.Core.Bool.{Bool, true, false, _&&_}
+use mathlib.Core.Bool.{Bool, true, false}
 use lib.IntN.{ℤ, pos}
-use lib.Dec.{T, leb, ltb, eqb, ltb→lt}
+use lib.Dec.{T, ltb→lt}
 use lib.Pow.{pow-add, pow-pos, pow-mono}
-use lib.Ieee.{Float, nan, inf, fin, Format, binary32, binary64, prec, emax, low, up, down, round, fits, lt}
-use lib.Ieee.Fits.{two, reach, and-l, and-r, down-pos, fits-widens, round-fits}
-use lib.Ieee.Exact.{HasValue, round-exact}
+use lib.Ieee.{Float, nan, inf, fin, Format, binary32, prec, emax, low, up, down, round, fits, lt}
+use lib.Ieee.Fits.{two, reach, down-pos, fits-widens, round-fits}
+use lib.Ieee.Exact.{round-exact}
 use lib.Ieee.Positive.{num, den, positive, positive-finite}
 use lib.Ieee.Scale.{finite}
 use Rattle.ieee.specs.Basic.{widenOf}
 use Rattle.ieee.specs.Narrow.{narrowOf}
-use Rattle.ieee.specs.Sqrt.{rootOf, sqrtOf}
+use Rattle.ieee.specs.Sqrt.{sqrtOf}
 use Rattle.rounding.specs.Meaning.{fraction, root, below, sign, last, largest, Rounded}
 use Rattle.rounding.specs.Meets.{Meets}
+use Rattle.rounding.proofs.Distance.{distance-of-closer, closer-of-distance}
+use Rattle.rounding.proofs.Limit.{largest-held, largest-above}
 use Rattle.rounding.proofs.Values.{in-units, fits-under, units-under, one-value, rescaled}
 use Rattle.rounding.proofs.Rounds.{round-rounded, rounded-is-round, rootOf-rounded, rounded-is-rootOf}
 
@@ -80,6 +82,9 @@ sqrt-below-zero f (fin false m e) t = absurd (let a = ltb→lt (m * up e * 1) (0
 
 pub meets : Meets
 meets = record {
+  closer-distance = λ n d D p a q b c. (distance-of-closer n d a b c D p q, closer-of-distance n d a b c D p q);
+  largest-held = largest-held;
+  largest-above = largest-above;
   round-rounded = λ f s n d D. round-rounded f n d D s;
   round-only = λ f s n d x D. rounded-is-round f n d D s x;
   root-rounded = rootOf-rounded;
@@ -95,5 +100,5 @@ meets = record {
   sqrt-zero = λ f s. unfold sqrtOf in refl;
   sqrt-below-zero = sqrt-below-zero;
   sqrt-infinity = λ f. unfold sqrtOf in refl;
-  sqrt-nan = λ f. unfold sqrtOf in refl
+  sqrt-nan = λ f. unfold sqrtOf in refl;
 }

@@ -1,7 +1,7 @@
 -- How a number compares with fractions: three laws, which a fraction and a root have, and what follows from them alone. Assumes nothing.
-use mathlib.Core.Path.{_≡_, refl, sym, ap, _∙_, subst}
+use mathlib.Core.Path.{_≡_, sym, ap, _∙_}
 use Prim.Native.Nat.{ℕ, suc, _+_, _-_, _*_, _≤_, _<_}
-use native.Mathlib.Nat.{le-trans, le-of-eq, lt-of-lt-of-le, lt-of-le-of-lt, lt-of-not-le, not-le-of-lt, lt-irrefl, mul-comm, mul-assoc, mul-left-comm, mul-mul-mul-comm, mul-le-mul-right, mul-lt-mul-of-pos-right, le-of-mul-le-mul-right, eq-of-mul-eq-mul-right, lt-of-mul-lt-mul-right, mul-pos, add-mul, mul-sub, zero-mul, le-of-suc-le-suc}
+use native.Mathlib.Nat.{le-trans, le-of-eq, lt-of-lt-of-le, lt-of-le-of-lt, mul-comm, mul-left-comm, mul-mul-mul-comm, mul-le-mul-right, mul-lt-mul-of-pos-right, le-of-mul-le-mul-right, eq-of-mul-eq-mul-right, lt-of-mul-lt-mul-right, mul-pos, add-mul, mul-sub, zero-mul, le-of-suc-le-suc}
 use native.Mathlib.Omega.{arith}
 use mathlib.Core.Bool.{Bool, true, false}
 use lib.Ieee.Positive.{through}
@@ -21,7 +21,7 @@ pub fraction-lawful : (n d : ℕ) → 0 < d → Lawful (fraction n d)
 fraction-lawful n d D = record {
   raise = λ a c b e C h g. through n a b d c e C g h;
   lower = λ a c b e C h g. through b a n e c d C h g;
-  order = λ a c b e g h. through a n b c d e D g h
+  order = λ a c b e g h. through a n b c d e D g h;
 }
 
 -- (a * d) * (a * d) ≤ (b * c) * (b * c), with the squares taken apart
@@ -35,7 +35,7 @@ pub root-lawful : (n d : ℕ) → 0 < d → Lawful (root n d)
 root-lawful n d D = record {
   raise = λ a c b e C h g. through n (a * a) (b * b) d (c * c) (e * e) (mul-pos C C) g (squares a c b e h);
   lower = λ a c b e C h g. through (b * b) (a * a) n (e * e) (c * c) d (mul-pos C C) (squares b e a c h) g;
-  order = λ a c b e g h. square-back (a * e) (b * c) (le-trans (le-of-eq (mul-mul-mul-comm a e a e)) (le-trans (through (a * a) n (b * b) (c * c) d (e * e) D g h) (le-of-eq (mul-mul-mul-comm b b c c))))
+  order = λ a c b e g h. square-back (a * e) (b * c) (le-trans (le-of-eq (mul-mul-mul-comm a e a e)) (le-trans (through (a * a) n (b * b) (c * c) d (e * e) D g h) (le-of-eq (mul-mul-mul-comm b b c c))));
 }
 
 -- ---- one number over two denominators: a / c is r / l
@@ -75,7 +75,7 @@ module _ (v : Number) (law : Lawful v) (a b c r w l : ℕ) (C : 0 < c) (L : 0 < 
   )
   closer-over false true h = half-lower (a - b) (r - w) (same-difference c l a r b w e f) h
   closer-over true false h = λ (g : 0 < a + b). let k = h (same-less c l 0 0 (a + b) (r + w) (zero-mul l ∙ sym (zero-mul c)) (same-sum c l a r b w e f) L g) in
-    (same-le c l a r b w e f L (k .0), half-raise (b - a) (w - r) (same-difference c l b w a r f e) (k .1))
+      (same-le c l a r b w e f L (k .0), half-raise (b - a) (w - r) (same-difference c l b w a r f e) (k .1))
   closer-over true true h = same-le c l a r b w e f L h
 
 -- ---- two numbers that are not the same: of one sign they differ in size, of two signs they are not both zero

@@ -10,7 +10,7 @@ use lib.Ieee.Fits.{nearest-le}
 use lib.Ieee.Nearest.{nearest-ge}
 use lib.Ieee.Scale.{overflow}
 use Rattle.ieee.proofs.Units.{twice-hid, overflow-is}
-use Rattle.rounding.specs.Meaning.{Number, atLeast, last, largest}
+use Rattle.rounding.specs.Meaning.{Number, atLeast}
 use Rattle.rounding.proofs.Numbers.{Lawful}
 use Rattle.rounding.proofs.Values.{split-le}
 use Rattle.rounding.proofs.Limit.{unit, limit, limit-is, limit-twice, one-less, many}

@@ -1,18 +1,18 @@
 -- The library's `round` and the root's `rootOf` are rounded as the definition says, over either format. Assumes nothing.
-use mathlib.Core.Path.{_≡_, refl, sym, ap, _∙_, subst}
+use mathlib.Core.Path.{_≡_, sym, ap, _∙_, subst}
 use mathlib.Core.Logic.{_⊎_}
 use Prim.Native.Nat.{ℕ, suc, _+_, _-_, _*_, _/_, _%_, _^_, _≤_, _<_, compare, Ordering, Ordering·lt, Ordering·eq, Ordering·gt}
-use native.Mathlib.Nat.{le-trans, le-of-eq, le-of-lt, lt-of-lt-of-le, mul-comm, mul-assoc, mul-left-comm, mul-mul-mul-comm, mul-le-mul-right, mul-pos, mod-lt, div-mul-le-self, div-add-mod', div-div-eq-div-mul, div-lt-iff-lt-mul, le-div-iff-mul-le, lt-suc-self, one-mul, suc-mul, add-mul}
+use native.Mathlib.Nat.{le-trans, le-of-eq, le-of-lt, lt-of-lt-of-le, mul-comm, mul-assoc, mul-left-comm, mul-le-mul-right, mul-pos, div-mul-le-self, div-add-mod', div-div-eq-div-mul, div-lt-iff-lt-mul, le-div-iff-mul-le, lt-suc-self, suc-mul, add-mul}
 use native.Mathlib.Omega.{arith}
 use mathlib.Core.Bool.{Bool, false}
 use lib.Pow.{pow-add, pow-pos}
-use lib.Ieee.{Float, Format, prec, low, size, nearest, units, hid, round}
+use lib.Ieee.{Float, Format, prec, low, size, hid, round}
 use lib.Ieee.Fits.{two, two-le-pos, kept-lt, round-is}
-use Rattle.ieee.specs.Sqrt.{isqrt, rootOf}
+use Rattle.ieee.specs.Sqrt.{rootOf}
 use Rattle.ieee.proofs.HalfEven.{Cmp, cmp}
 use Rattle.ieee.proofs.Isqrt.{square-le, square-double, isqrt-lo, isqrt-hi}
 use Rattle.ieee.proofs.Roots.{whole, dropped, order, is-units}
-use Rattle.rounding.specs.Meaning.{Number, fraction, root, Rounded}
+use Rattle.rounding.specs.Meaning.{fraction, root, Rounded}
 use Rattle.rounding.proofs.Numbers.{fraction-lawful, root-lawful}
 use Rattle.rounding.proofs.Values.{kept-full}
 use Rattle.rounding.proofs.Located.{Located}
@@ -58,7 +58,7 @@ module _ (f : Format) (num den : ℕ) (D : 0 < den) where
     full = subst (λ (q : ℕ). (hid f ≤ q) ⊎ (k ≡ 0)) cut (kept-full (prec f) (n / den) (two-le-pos (prec f) (two f)));
     least = le-trans (le-of-eq (by-unit (n / u))) (div-mul-le-self n u);
     most = le-trans (le-of-lt (div-lt-iff-lt-mul (mul-pos D (pow-pos k)) .0 (lt-suc-self (n / u)))) (le-of-eq (sym (by-unit (suc (n / u)))));
-    middle = same-order (compare (n % u * 2) u) (num * (2 * 2 ^ low f)) (2 * (n / u * u) + n % u * 2) ((n / u * 2 ^ k + suc (n / u) * 2 ^ k) * den) (2 * (n / u * u) + u) twice-fraction twice-middle (shifted (compare (n % u * 2) u) (2 * (n / u * u)) (n % u * 2) u (cmp (n % u * 2) u))
+    middle = same-order (compare (n % u * 2) u) (num * (2 * 2 ^ low f)) (2 * (n / u * u) + n % u * 2) ((n / u * 2 ^ k + suc (n / u) * 2 ^ k) * den) (2 * (n / u * u) + u) twice-fraction twice-middle (shifted (compare (n % u * 2) u) (2 * (n / u * u)) (n % u * 2) u (cmp (n % u * 2) u));
   }
 
   pub round-rounded : (s : Bool) → Rounded f s (fraction num den) (round f s num den)
@@ -96,7 +96,7 @@ module _ (f : Format) (num den : ℕ) (D : 0 < den) where
     full = kept-full (prec f) (whole f num den) (two-le-pos (prec f) (two f));
     least = le-trans (mul-le-mul-right den (square-le (div-mul-le-self (whole f num den) (2 ^ p)))) (le-trans (le-div-iff-mul-le D .0 (isqrt-lo (square / den))) (le-of-eq (sym square-is)));
     most = le-trans (le-of-eq square-is) (le-of-lt (lt-of-lt-of-le (div-lt-iff-lt-mul D .0 (isqrt-hi (square / den))) (mul-le-mul-right den (square-le (div-lt-iff-lt-mul (pow-pos p) .0 (lt-suc-self q))))));
-    middle = same-order (order f num den) (num * (2 * 2 ^ low f * (2 * 2 ^ low f))) (4 * square) ((q * 2 ^ p + suc q * 2 ^ p) * (q * 2 ^ p + suc q * 2 ^ p) * den) ((2 * q + 1) * 2 ^ p * ((2 * q + 1) * 2 ^ p) * den) twice-root (ap (λ (z : ℕ). z * z * den) twice-middle-root) (cmp (4 * square) ((2 * q + 1) * 2 ^ p * ((2 * q + 1) * 2 ^ p) * den))
+    middle = same-order (order f num den) (num * (2 * 2 ^ low f * (2 * 2 ^ low f))) (4 * square) ((q * 2 ^ p + suc q * 2 ^ p) * (q * 2 ^ p + suc q * 2 ^ p) * den) ((2 * q + 1) * 2 ^ p * ((2 * q + 1) * 2 ^ p) * den) twice-root (ap (λ (z : ℕ). z * z * den) twice-middle-root) (cmp (4 * square) ((2 * q + 1) * 2 ^ p * ((2 * q + 1) * 2 ^ p) * den));
   }
 
   pub rootOf-rounded : Rounded f false (root num den) (rootOf f num den)

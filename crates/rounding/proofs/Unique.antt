@@ -1,20 +1,20 @@
 -- The definition of rounding leaves no choice: of a located number there is one rounded value. Two values as near are neighbours, and of two neighbours only one ends in an even digit. Assumes nothing.
-use mathlib.Core.Path.{_≡_, refl, sym, ap, _∙_, subst}
+use mathlib.Core.Path.{_≡_, sym, ap, _∙_, subst}
 use mathlib.Core.Logic.{_⊎_, inl, inr}
-use Prim.Native.Nat.{ℕ, zero, suc, _+_, _*_, _%_, _^_, _≤_, _<_, Ordering}
-use native.Mathlib.Nat.{le-refl, le-suc, le-trans, eq-of-mul-eq-mul-right}
+use Prim.Native.Nat.{ℕ, suc, _+_, _*_, _%_, _^_, _≤_, Ordering}
+use native.Mathlib.Nat.{le-refl, le-suc, le-trans}
 use native.Mathlib.Omega.{arith}
 use native.Mathlib.Decide.{ℕ-discrete}
-use mathlib.Core.Bool.{Bool, true, false}
+use mathlib.Core.Bool.{Bool, false}
 use lib.Dec.{T}
 use lib.Pow.{pow-pos}
-use lib.Ieee.{Float, inf, Format, prec, low, nearest, units, fits, toBits, unlike}
+use lib.Ieee.{Float, Format, prec, low, nearest, units, toBits, unlike}
 use lib.Ieee.Fits.{two, two-le-pos}
 use lib.Ieee.Exact.{HasValue}
 use lib.Ieee.Positive.{num, den}
 use lib.Ieee.Scale.{finite}
 use Rattle.ieee.proofs.Units.{bits-of-finite}
-use Rattle.rounding.specs.Meaning.{Number, atMost, atLeast, below, Closer, Nearer, sign, last, largest, Rounded}
+use Rattle.rounding.specs.Meaning.{Number, atLeast, below, Closer, sign, last, largest, Rounded}
 use Rattle.rounding.proofs.Numbers.{Lawful}
 use Rattle.rounding.proofs.Neighbours.{other}
 use Rattle.rounding.proofs.Values.{split-le, in-units, gap, value-of, value-cross, one-value, unlike-self, units-of-nearer, different, last-digit}

@@ -1,18 +1,24 @@
 -- How "meets IEEE 754" is said of the width changes and the square root: this record is the list, and proofs/Meets.antt proves it. Assumes nothing.
 use mathlib.Core.Path.{_≡_}
-use Prim.Native.Nat.{ℕ, _<_}
+use mathlib.Core.Logic.{_↔_}
+use Prim.Native.Nat.{ℕ, _*_, _≤_, _<_}
 use mathlib.Core.Bool.{Bool, false}
 use lib.IntN.{pos}
 use lib.Dec.{T}
 use lib.Ieee.{Float, nan, inf, fin, Format, binary32, binary64, round, fits, lt}
+use lib.Ieee.Exact.{HasValue}
 use lib.Ieee.Positive.{num, den, positive}
 use lib.Ieee.Scale.{finite}
 use Rattle.ieee.specs.Basic.{widenOf}
 use Rattle.ieee.specs.Narrow.{narrowOf}
 use Rattle.ieee.specs.Sqrt.{rootOf, sqrtOf}
-use Rattle.rounding.specs.Meaning.{fraction, root, sign, Rounded}
+use Rattle.rounding.specs.Meaning.{fraction, root, Closer, distance, sign, largest, Rounded}
 
 pub record Meets : Type 0 where
+  -- ---- two definitions are what they are called: `Closer`, of a fraction n / d, by the distances times c * d; and `largest`
+  pub closer-distance : (n d : ℕ) → 0 < d → (p : Bool) (a : ℕ) (q : Bool) (b c : ℕ) → Closer (fraction n d) p a q b c ↔ (distance p (n * c) (a * d) ≤ distance q (n * c) (b * d))
+  pub largest-held : (f : Format) → (y : Float) × T (fits f y) × HasValue y false (largest f) 1
+  pub largest-above : (f : Format) (y : Float) → T (fits f y) → T (finite y) → num y ≤ largest f * den y
   -- ---- rounding, over either format, and that there is one such value
   pub round-rounded : (f : Format) (s : Bool) (n d : ℕ) → 0 < d → Rounded f s (fraction n d) (round f s n d)
   pub round-only : (f : Format) (s : Bool) (n d : ℕ) (x : Float) → 0 < d → Rounded f s (fraction n d) x → x ≡ round f s n d
