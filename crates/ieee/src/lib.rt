@@ -15,11 +15,11 @@ pub fn widen(x: f32) -> f64
     std::num::f32_to_f64_with_nan(x)
 }
 
-// Neither an infinity nor a NaN: for both of those x - x is a NaN.
+// Neither an infinity nor a NaN.
 pub fn is_finite(x: f32) -> bool
     ensures { λ r. ⌜ r ≡ finite x ⌝ }
 {
-    x - x == 0.0
+    -1.0 / 0.0 < x && x < 1.0 / 0.0
 }
 
 pub fn abs(x: f32) -> f32
@@ -29,7 +29,7 @@ pub fn abs(x: f32) -> f32
         return -x;
     }
     if x == 0.0 {
-        return 0.0;
+        return 0.0f32;
     }
     x
 }
@@ -41,7 +41,7 @@ pub fn abs_f64(x: f64) -> f64
         return -x;
     }
     if x == 0.0 {
-        return 0.0;
+        return 0.0f64;
     }
     x
 }

@@ -1,3 +1,4 @@
+use Rattle.ieee.specs.Basic.{maxOf}
 use Rattle.ieee.proofs.max.Statement.{statement}
 use Rattle.ieee.proofs.max.Tie as tie
 use Rattle.ieee.proofs.max.Reads as reads
@@ -5,15 +6,18 @@ use Rattle.ieee.proofs.max.Lts as lts
 
 -- src/lib.rt:65:9
 returns : tie.Need-returns
-returns c = ?
+unfolding maxOf
+returns c = rw (c .if1 .taken)
 
 -- src/lib.rt:68:9
 returns-2 : tie.Need-returns-2
-returns-2 c = ?
+unfolding maxOf
+returns-2 c = rw (c .before .if1 .left, c .if2 .taken)
 
 -- src/lib.rt:61:1
 returns-3 : tie.Need-returns-3
-returns-3 c = ?
+unfolding maxOf
+returns-3 c = rw (c .before .if1 .left, c .if2 .left)
 
 pub max-spec : {M : Type 1} → statement M
 max-spec = tie.close (tie.spec returns returns-2 returns-3)

@@ -1,3 +1,4 @@
+use Rattle.ieee.specs.Basic.{minOf}
 use Rattle.ieee.proofs.min.Statement.{statement}
 use Rattle.ieee.proofs.min.Tie as tie
 use Rattle.ieee.proofs.min.Reads as reads
@@ -5,15 +6,18 @@ use Rattle.ieee.proofs.min.Lts as lts
 
 -- src/lib.rt:53:9
 returns : tie.Need-returns
-returns c = ?
+unfolding minOf
+returns c = rw (c .if1 .taken)
 
 -- src/lib.rt:56:9
 returns-2 : tie.Need-returns-2
-returns-2 c = ?
+unfolding minOf
+returns-2 c = rw (c .before .if1 .left, c .if2 .taken)
 
 -- src/lib.rt:49:1
 returns-3 : tie.Need-returns-3
-returns-3 c = ?
+unfolding minOf
+returns-3 c = rw (c .before .if1 .left, c .if2 .left)
 
 pub min-spec : {M : Type 1} → statement M
 min-spec = tie.close (tie.spec returns returns-2 returns-3)

@@ -1,3 +1,4 @@
+use Rattle.ieee.specs.Basic.{widenOf}
 use borrow.Author.Needs.{needs}
 use Rattle.ieee.proofs.widen.Statement.{statement}
 use Rattle.ieee.proofs.widen.Tie as tie
@@ -11,7 +12,8 @@ f32-to-f64-with-nan-requires c κs = search needs
 
 -- src/lib.rt:12:1
 returns : tie.Need-returns
-returns c = ?
+unfolding widenOf
+returns c = rw (← c .f32-to-f64-with-nan .ensures)
 
 pub widen-spec : {M : Type 1} → statement M
 widen-spec = tie.close (tie.spec f32-to-f64-with-nan-requires returns)

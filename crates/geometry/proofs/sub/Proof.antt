@@ -1,0 +1,14 @@
+use Rattle.geometry.specs.Point.{subOf}
+use mathlib.Core.Path.{refl}
+use Rattle.geometry.proofs.sub.Statement.{statement}
+use Rattle.geometry.proofs.sub.Tie as tie
+use Rattle.geometry.proofs.sub.Reads as reads
+use Rattle.geometry.proofs.sub.Lts as lts
+
+-- src/lib.rt:20:1
+returns : tie.Need-returns
+unfolding subOf
+returns c = refl
+
+pub sub-spec : {M : Type 1} → statement M
+sub-spec = tie.close (tie.spec returns)
