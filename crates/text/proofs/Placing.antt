@@ -32,10 +32,10 @@ rewritten {l} {at} {t} {u} {r} {l'} e w = subst (λ (v : List ℕ). Wrote l at v
 not-more : (b n k r : ℕ) → 0 < b → n < b ^ k → (k < r → b ^ (r - 1) ≤ n) → r ≤ k
 not-more b n k r pos fit few =
     let no : k < r → ⊥ =
-        λ h.
-        let g : b ^ k ≤ b ^ (r - 1) = pow-le-pow-right pos (omega arith) in
-        let f : b ^ (r - 1) ≤ n = few h in
-        omega arith in
+    λ h.
+    let g : b ^ k ≤ b ^ (r - 1) = pow-le-pow-right pos (omega arith) in
+    let f : b ^ (r - 1) ≤ n = few h in
+    omega arith in
     omega arith
 
 -- where the least number of digits holds n, it is the fewest

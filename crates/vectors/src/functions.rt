@@ -112,13 +112,14 @@ fn of_points(name: &[u8], p: Point, q: Point) -> Answer {
 }
 
 // The answer for a function's name and the rest of its line.
-pub fn answer(name: &[u8], line: &[u8]) -> Answer {
+pub fn answer_to(name: &[u8], line: &[u8]) -> Answer {
     if same(name, b"narrow") || same(name, b"abs_f64") {
         return of_double(name, line);
     }
     let o = operands::read(line);
+    let n = o.count;
     let x = o.x;
-    match o.count {
+    match n {
         1 => of_single(name, x[0]),
         2 => of_two(name, x[0], x[1]),
         3 => of_three(name, x[0], x[1], x[2]),

@@ -18,8 +18,12 @@ fn pair_text(x: f32, y: f32, out: &mut [u8]) -> usize {
 fn answer_text(a: Answer, out: &mut [u8]) -> usize {
     match a {
         Answer::Bad => text::put(out, 0, b"bad"),
-        Answer::Flag(true) => text::put(out, 0, b"1"),
-        Answer::Flag(false) => text::put(out, 0, b"0"),
+        Answer::Flag(yes) => {
+            if yes {
+                return text::put(out, 0, b"1");
+            }
+            text::put(out, 0, b"0")
+        }
         Answer::Single(x) => text::put_single(out, 0, x),
         Answer::Double(x) => text::put_double(out, 0, x),
         Answer::Pair(x, y) => pair_text(x, y, out),
@@ -31,7 +35,7 @@ fn write_answer(a: Answer) {
     let n = answer_text(a, &mut out);
     let n = text::put(&mut out, n, b"\n");
     if n <= 64 {
-        io::write_all(STDOUT_FILENO, &out[..n]);
+        io::write_all(STDOUT_FILENO, &out[0..n]);
     }
 }
 
@@ -41,9 +45,9 @@ fn finish(line: &[u8], held: usize) {
         write_answer(Answer::Bad);
         return;
     }
-    let name = text::first_word(&line[..held]);
+    let name = text::first_word(&line[0..held]);
     if name.len() > 0 {
-        write_answer(functions::answer(name, text::after_word(&line[..held])));
+        write_answer(functions::answer_to(name, text::after_word(&line[0..held])));
     }
 }
 
@@ -65,7 +69,7 @@ fn take_piece(piece: &[u8], line: &mut [u8], held: usize) -> usize {
     while at < piece.len() {
         let rest = &piece[at..];
         let n = text::leading(rest, text::Class::Line);
-        held = hold(line, held, &rest[..n]);
+        held = hold(line, held, &rest[0..n]);
         if n == rest.len() {
             return held;
         }
@@ -90,7 +94,7 @@ fn take_some(line: &mut [u8], held: usize) -> Progress {
     }
     let n = io::count(got, &piece);
     Progress {
-        held: take_piece(&piece[..n], line, held),
+        held: take_piece(&piece[0..n], line, held),
         more: true,
     }
 }

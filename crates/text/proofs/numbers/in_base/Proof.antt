@@ -81,11 +81,12 @@ loop-less c = omega arith
 loop-again : tie.Need-loop-again Inv-loop μ-loop
 loop-again c =
     let l = c .before .before .before .before .before in
-    let a = l .before .before .before in
-    (omega arith,
-    new-number c,
-    l .loop .inv .2
-    ∙ next-digit (a .args .base) (l .loop .n) _ _ (c .before .before .before .before .loop-test .taken) _ (digit-at (c .before)) (c .before .if2 .left) (new-number c))
+    let a = l .before .before .before in (
+      omega arith,
+      new-number c,
+      l .loop .inv .2
+          ∙ next-digit (a .args .base) (l .loop .n) _ _ (c .before .before .before .before .loop-test .taken) _ (digit-at (c .before)) (c .before .if2 .left) (new-number c),
+    )
 
 returns-4 : tie.Need-returns-4 Inv-loop μ-loop
 returns-4 c = sym (c .before .loop .inv .2 ∙ no-digits-left _ _ _ _ (c .loop-test .left))

@@ -44,12 +44,13 @@ loop-again : tie.Need-loop-again Inv-loop μ-loop
 loop-again c =
     let l = c .before .before in
     let a = l .before .args in
-    let out : at-i c < length (a .out .now) = omega (arith, l .before .pre) in
-    (omega arith,
-    simp length-set (omega arith),
-    rw (add-one)
-    (ap (λ (o : List ℕ). set o (at-i c) (getD (a .text .now) (l .loop .i) 0)) (l .loop .inv .2)
-    ∙ paste-suc (a .out .now) (a .at) (a .text .now) (l .loop .i) 0 out (c .before .loop-test .taken)))
+    let out : at-i c < length (a .out .now) = omega (arith, l .before .pre) in (
+      omega arith,
+      simp length-set (omega arith),
+      rw (add-one)
+          (ap (λ (o : List ℕ). set o (at-i c) (getD (a .text .now) (l .loop .i) 0)) (l .loop .inv .2)
+          ∙ paste-suc (a .out .now) (a .at) (a .text .now) (l .loop .i) 0 out (c .before .loop-test .taken)),
+    )
 
 same-length : tie.Need-same-length Inv-loop μ-loop
 same-length c = c .before .loop .inv .1

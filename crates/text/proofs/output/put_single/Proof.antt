@@ -66,9 +66,9 @@ returns-2 c =
     let h = c .before .before .before .before .before in
     let s = h .before .before .before .before in
     let e =
-        h .hex .ensures .1 .1
-        ∙ ap (λ (k : ℕ). digits 16 k (toBits binary32 (s .args .x))) (at-least 16 8 _ _ (lit< tt) (width s) (h .hex .ensures .1 .0))
-        ∙ sym (single-text _ (is-number (h .before .before))) in
+    h .hex .ensures .1 .1
+    ∙ ap (λ (k : ℕ). digits 16 k (toBits binary32 (s .args .x))) (at-least 16 8 _ _ (lit< tt) (width s) (h .hex .ensures .1 .0))
+    ∙ sym (single-text _ (is-number (h .before .before))) in
     rewritten e (c .before .before .put2 .ensures)
 
 pub put-single-spec : {M : Type 1} → statement M
