@@ -1,6 +1,6 @@
 //! The library against the machine's own instructions and against the oracle, in bulk.
 
-use crate::random::Random;
+use oracle::random::Random;
 use crate::{library, machine};
 
 /// How many cases were compared and how many differ; the first few of those are printed.

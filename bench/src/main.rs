@@ -3,7 +3,6 @@
 mod compare;
 mod library;
 mod machine;
-mod random;
 mod speed;
 
 fn main() {

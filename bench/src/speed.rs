@@ -4,7 +4,7 @@
 use std::hint::black_box;
 use std::time::Instant;
 
-use crate::random::Random;
+use oracle::random::Random;
 use crate::{library, machine};
 
 const INPUTS: usize = 4096;
