@@ -113,7 +113,7 @@ pub fn pow(b: f32, y: f32) -> f32 {
 }
 
 /// For a finite u above zero that is no subnormal f64: every widened f32 is.
-fn ln(u: f64) -> f64 {
+pub fn ln(u: f64) -> f64 {
     let bits = u.to_bits();
     let mut e = (bits >> 52) as i64 - 1023;
     let mut f = f64::from_bits(bits % (1 << 52) + (1023 << 52));
@@ -127,7 +127,7 @@ fn ln(u: f64) -> f64 {
 }
 
 /// For a t that is no NaN.
-fn exp(t: f64) -> f64 {
+pub fn exp(t: f64) -> f64 {
     if t > 100.0 {
         return f64::INFINITY;
     }

@@ -3,6 +3,7 @@
 //! speed alone.
 
 pub mod ground;
+pub mod random;
 pub mod vec2;
 
 include!(concat!(env!("OUT_DIR"), "/original.rs"));

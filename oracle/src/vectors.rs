@@ -2,40 +2,8 @@
 
 use crate::answers::{Function, Function::*, FUNCTIONS};
 use crate::words::{f32_word, f64_word};
-
-/// splitmix64
-struct Random(u64);
-
-impl Random {
-    fn bits(&mut self) -> u64 {
-        self.0 = self.0.wrapping_add(0x9e37_79b9_7f4a_7c15);
-        let z = (self.0 ^ (self.0 >> 30)).wrapping_mul(0xbf58_476d_1ce4_e5b9);
-        let z = (z ^ (z >> 27)).wrapping_mul(0x94d0_49bb_1331_11eb);
-        z ^ (z >> 31)
-    }
-
-    fn below(&mut self, n: u64) -> u64 {
-        self.bits() % n
-    }
-
-    /// uniform from lo to hi
-    fn within(&mut self, lo: f64, hi: f64) -> f64 {
-        lo + (hi - lo) * ((self.bits() >> 11) as f64 / (1u64 << 53) as f64)
-    }
-
-    /// its logarithm uniform from that of lo to that of hi
-    fn scaled(&mut self, lo: f64, hi: f64) -> f64 {
-        self.within(lo.ln(), hi.ln()).exp()
-    }
-
-    fn sign(&mut self) -> f64 {
-        if self.below(2) == 0 {
-            1.0
-        } else {
-            -1.0
-        }
-    }
-}
+use oracle::ground::{exp, ln};
+use oracle::random::Random;
 
 /// Values at which a rule changes, by their bits: zeros, the ends of the subnormal and of the
 /// normal numbers, 1 and its neighbours, small whole numbers and fractions, 8 and the next above
@@ -285,7 +253,7 @@ fn pow_domain(list: &mut List) {
         list.singles("pow", &[b, n]);
         list.singles("pow", &[b, 1.0 / n]);
         // so near 1 that a great exponent stays in range
-        let near = (list.random.sign() * list.random.scaled(1e-3, 80.0) / n as f64).exp() as f32;
+        let near = exp(list.random.sign() * list.random.scaled(1e-3, 80.0) / n as f64) as f32;
         list.singles("pow", &[near, n]);
     }
     for _ in 0..100 {
@@ -300,7 +268,7 @@ fn pow_domain(list: &mut List) {
         for _ in 0..12 {
             let b = list.random.scaled(1e-30, 1e30);
             let t = limit + list.random.within(-0.3, 0.3);
-            list.singles("pow", &[b as f32, (t / b.ln()) as f32]);
+            list.singles("pow", &[b as f32, (t / ln(b)) as f32]);
         }
     }
 }
