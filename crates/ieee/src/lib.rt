@@ -29,7 +29,7 @@ pub fn abs(x: f32) -> f32
         return -x;
     }
     if x == 0.0 {
-        return 0.0;
+        return 0.0f32;
     }
     x
 }
@@ -41,7 +41,7 @@ pub fn abs_f64(x: f64) -> f64
         return -x;
     }
     if x == 0.0 {
-        return 0.0;
+        return 0.0f64;
     }
     x
 }
