@@ -43,6 +43,13 @@ fn of_single(name: &[u8], x: f32) -> Answer {
     if same(name, b"abs") {
         return Answer::Single(ieee::abs(x));
     }
+    if same(name, b"tan") {
+        return Answer::Single(trigonometry::tan(x));
+    }
+    if same(name, b"sin_cos") {
+        let r = trigonometry::sin_cos(x);
+        return Answer::Pair(r.sin, r.cos);
+    }
     Answer::Bad
 }
 
@@ -52,6 +59,9 @@ fn of_two(name: &[u8], a: f32, b: f32) -> Answer {
     }
     if same(name, b"max") {
         return Answer::Single(ieee::max(a, b));
+    }
+    if same(name, b"atan2") {
+        return Answer::Single(trigonometry::atan2(a, b));
     }
     of_point_alone(name, Point { x: a, y: b })
 }
