@@ -1,6 +1,7 @@
 //! The library against the machine's own instructions and against the oracle, in bulk.
 
-use crate::{library, machine};
+use crate::library;
+use crate::others::machine;
 use oracle::ground;
 use oracle::random::Random;
 

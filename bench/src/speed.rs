@@ -5,10 +5,10 @@
 use std::hint::black_box;
 use std::time::Instant;
 
-use oracle::ground;
 use oracle::random::Random;
 
-use crate::{library, machine};
+use crate::library;
+use crate::others::{machine, platform, written};
 
 const INPUTS: usize = 4096;
 const ROUNDS: usize = 200;
@@ -50,22 +50,24 @@ fn print(name: &str, how: &str, labels: &[&str], least: &[f64]) {
 
 /// The least of the rounds of each function, taken in turns.
 macro_rules! compare {
-    ($name:literal, $inputs:expr, $tie:expr, $($label:literal => $call:expr),+ $(,)?) => {{
-        let inputs = $inputs;
-        let labels = [$($label),+];
-        let mut calls = [f64::INFINITY; 3];
-        let mut chain = [f64::INFINITY; 3];
-        for _ in 0..ROUNDS {
-            let mut k = 0;
-            $(
-                calls[k] = calls[k].min(overlapping(&inputs, $call));
-                chain[k] = chain[k].min(round(&inputs, $call, $tie));
-                k += 1;
-            )+
-            let _ = k;
+    ($names:expr, $name:literal, $inputs:expr, $tie:expr, $($label:literal => $call:expr),+ $(,)?) => {{
+        if $names.is_empty() || $names.contains(&$name) {
+            let inputs = $inputs;
+            let labels = [$($label),+];
+            let mut calls = [f64::INFINITY; 3];
+            let mut chain = [f64::INFINITY; 3];
+            for _ in 0..ROUNDS {
+                let mut k = 0;
+                $(
+                    calls[k] = calls[k].min(overlapping(&inputs, $call));
+                    chain[k] = chain[k].min(round(&inputs, $call, $tie));
+                    k += 1;
+                )+
+                let _ = k;
+            }
+            print($name, "calls", &labels, &calls);
+            print($name, "chain", &labels, &chain);
         }
-        print($name, "calls", &labels, &calls);
-        print($name, "chain", &labels, &chain);
     }};
 }
 
@@ -82,28 +84,28 @@ fn both(p: (f32, f32)) -> u64 {
     bits(p.0) ^ bits(p.1)
 }
 
-pub fn run() {
+pub fn run(names: &[&str]) {
     let none = black_box(0u64);
     let tie = |x: f32, last: u64| f32::from_bits(x.to_bits() ^ (last & none) as u32);
     let tie_wide = |x: f64, last: u64| f64::from_bits(x.to_bits() ^ (last & none));
     let tie_pair = |(a, b): (f32, f32), last: u64| (tie(a, last), b);
     println!("ns per call, and the library's time as a multiple of each other's");
-    compare!("narrow", inputs(|r| r.within(-2000.0, 2000.0)), tie_wide,
+    compare!(names, "narrow", inputs(|r| r.within(-2000.0, 2000.0)), tie_wide,
         "library" => |x| bits(library::narrow(x)),
         "machine" => |x| bits(machine::narrow(x)));
-    compare!("sqrt", inputs(|r| r.within(0.0, 4e6) as f32), tie,
+    compare!(names, "sqrt", inputs(|r| r.within(0.0, 4e6) as f32), tie,
         "library" => |x| bits(library::sqrt(x)),
         "machine" => |x| bits(machine::sqrt(x)));
-    compare!("sin_cos", inputs(|r| r.within(-8.0, 8.0) as f32), tie,
+    compare!(names, "sin_cos", inputs(|r| r.within(-8.0, 8.0) as f32), tie,
         "library" => |x| both(library::sin_cos(x)),
-        "oracle" => |x| both(ground::sin_cos(x)),
-        "std" => |x| both(machine::sin_cos(x)));
-    compare!("tan", inputs(|r| r.within(-1.0, 1.0) as f32), tie,
+        "oracle" => |x| both(written::sin_cos(x)),
+        "std" => |x| both(platform::sin_cos(x)));
+    compare!(names, "tan", inputs(|r| r.within(-1.0, 1.0) as f32), tie,
         "library" => |x| bits(library::tan(x)),
-        "oracle" => |x| bits(ground::tan(x)),
-        "std" => |x| bits(machine::tan(x)));
-    compare!("atan2", inputs(|r| (r.within(-2e3, 2e3) as f32, r.within(-2e3, 2e3) as f32)), tie_pair,
+        "oracle" => |x| bits(written::tan(x)),
+        "std" => |x| bits(platform::tan(x)));
+    compare!(names, "atan2", inputs(|r| (r.within(-2e3, 2e3) as f32, r.within(-2e3, 2e3) as f32)), tie_pair,
         "library" => |(y, x)| bits(library::atan2(y, x)),
-        "oracle" => |(y, x)| bits(ground::atan2(y, x)),
-        "std" => |(y, x)| bits(machine::atan2(y, x)));
+        "oracle" => |(y, x)| bits(written::atan2(y, x)),
+        "std" => |(y, x)| bits(platform::atan2(y, x)));
 }
