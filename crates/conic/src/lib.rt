@@ -45,7 +45,7 @@ fn is_line(c: Conic) -> bool
     true
 }
 
-// The one rule of what a conic is drawn as: needs, writing and reading all go by it.
+// The one rule of what a conic is drawn as: the need of a conic and its writing both go by it.
 pub fn lower(c: Conic) -> Lowered
     ensures { λ r. ⌜ r ≡ lowerOf c ⌝ }
 {

@@ -4,7 +4,7 @@ ghost use mathlib.Core.Path.{_≡_};
 ghost use mathlib.Core.List.{_∷_, []};
 ghost use Prim.Native.Nat.{_+_, _*_, _^_, _<_, _≤_};
 ghost use lib.ListN.{length};
-ghost use Rattle.stream.specs.Stream.{put, verbOf, pointCount, sizeOf, freshBuilder, isEmpty, badRecord, hasRoom, advanceOf, state, push};
+ghost use Rattle.stream.specs.Stream.{put, pointCount, freshBuilder, isEmpty, badRecord, hasRoom, advanceOf, state, push};
 use geometry::Point;
 
 // How much of the buffers is held, the contour's start and the pen. Start and pen mean nothing while
@@ -81,18 +81,6 @@ pub fn has_room(b: Builder, verbs: usize, floats: usize, need: Need) -> bool
     false
 }
 
-pub fn verb(e: Element) -> u8
-    ensures { λ r. ⌜ r ≡ verbOf e ⌝ }
-{
-    match e {
-        Element::Move(_) => 0,
-        Element::Line(_) => 1,
-        Element::Quad(_, _) => 2,
-        Element::Cubic(_, _, _) => 3,
-        Element::Close => 4,
-    }
-}
-
 // How many points a verb consumes.
 pub fn point_count(verb: u8) -> usize
     ensures { λ r. ⌜ r ≡ pointCount verb ⌝ }
@@ -108,34 +96,34 @@ pub fn point_count(verb: u8) -> usize
 
 // The record after one element more.
 fn advance(b: Builder, e: Element) -> Builder
-    requires { ⌜ (b .verbs + 1 < 2 ^ 64) × (b .points + sizeOf e < 2 ^ 64) ⌝ }
+    requires { ⌜ (b .verbs + 1 < 2 ^ 64) × (b .points + 3 < 2 ^ 64) ⌝ }
     ensures { λ r. ⌜ r ≡ advanceOf b e ⌝ }
 {
     let verbs = b.verbs + 1;
-    let points = b.points + point_count(verb(e));
+    let points = b.points;
     let start = b.start;
     match e {
         Element::Move(p) => Builder {
             verbs: verbs,
-            points: points,
+            points: points + 1,
             start: p,
             pen: p,
         },
         Element::Line(p) => Builder {
             verbs: verbs,
-            points: points,
+            points: points + 1,
             start: start,
             pen: p,
         },
         Element::Quad(_, p) => Builder {
             verbs: verbs,
-            points: points,
+            points: points + 2,
             start: start,
             pen: p,
         },
         Element::Cubic(_, _, p) => Builder {
             verbs: verbs,
-            points: points,
+            points: points + 3,
             start: start,
             pen: p,
         },
