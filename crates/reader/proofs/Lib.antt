@@ -2,4 +2,5 @@
 pub mod Reader
 pub mod Folds
 pub mod Parts
+pub mod Holding
 mod Refusals
