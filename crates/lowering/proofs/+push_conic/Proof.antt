@@ -128,10 +128,11 @@ module _ (t : ℕ) where
       let s : State = state (a .b) (a .verbs .now) (a .points .now) in
       let m : State = state (c .before .before .before .before .before .before .before .before .before .before .before .before .before .before .before .push-conic .result .builder) (c .before .before .before .before .before .before .before .before .before .before .before .before .before .before .before .push-conic .last .1 .0) (c .before .before .before .before .before .before .before .before .before .before .before .before .before .before .before .push-conic .last .1 .1 .0) in
       let l = halve d (h .left) (a .start) in
-      let r : ℕ → List Piece = λ k. halve d (h .right) (a .start + k) in
-      (c .before .before .before .before .before .before .before .push-conic2 .ensures .0 ∙ ap (λ (k : ℕ). pushAll m (quadsOf (r k))) (half (c .before .before .before .before .before .before .before .before .before .before .before .before .before .before .before .before .before .before .before .before)) ∙ ap (λ (x : State). pushAll x (quadsOf (r (2 ^ d)))) (c .before .before .before .before .before .before .before .before .before .before .before .before .before .before .before .push-conic .ensures .0)
-      ∙ sym (ap (pushAll s) (both (c .before .before .before .before .before .before .before .before .before .before .before .before .before .before .before .before .before .before .before .before) .quads) ∙ push-all-append s (quadsOf l) (quadsOf (r (2 ^ d)))),
-      ap₂ (λ (x y : ℕ). x + y) (c .before .before .before .before .before .before .before .before .before .before .before .before .before .before .before .push-conic .ensures .1) (c .before .before .before .before .before .before .before .push-conic2 .ensures .1 ∙ ap (λ (k : ℕ). wordOf (r k)) (half (c .before .before .before .before .before .before .before .before .before .before .before .before .before .before .before .before .before .before .before .before))) ∙ sym (both (c .before .before .before .before .before .before .before .before .before .before .before .before .before .before .before .before .before .before .before .before) .word))
+      let r : ℕ → List Piece = λ k. halve d (h .right) (a .start + k) in (
+        c .before .before .before .before .before .before .before .push-conic2 .ensures .0 ∙ ap (λ (k : ℕ). pushAll m (quadsOf (r k))) (half (c .before .before .before .before .before .before .before .before .before .before .before .before .before .before .before .before .before .before .before .before)) ∙ ap (λ (x : State). pushAll x (quadsOf (r (2 ^ d)))) (c .before .before .before .before .before .before .before .before .before .before .before .before .before .before .before .push-conic .ensures .0)
+            ∙ sym (ap (pushAll s) (both (c .before .before .before .before .before .before .before .before .before .before .before .before .before .before .before .before .before .before .before .before) .quads) ∙ push-all-append s (quadsOf l) (quadsOf (r (2 ^ d)))),
+        ap₂ (λ (x y : ℕ). x + y) (c .before .before .before .before .before .before .before .before .before .before .before .before .before .before .before .push-conic .ensures .1) (c .before .before .before .before .before .before .before .push-conic2 .ensures .1 ∙ ap (λ (k : ℕ). wordOf (r k)) (half (c .before .before .before .before .before .before .before .before .before .before .before .before .before .before .before .before .before .before .before .before))) ∙ sym (both (c .before .before .before .before .before .before .before .before .before .before .before .before .before .before .before .before .before .before .before .before) .word),
+      )
 
 pub +push-conic-spec : {M : Type 1} → statement M
 +push-conic-spec =

@@ -2,9 +2,6 @@ use Rattle.lowering.proofs.Writing.{bit}
 use borrow.Author.Needs.{needs}
 use Rattle.lowering.proofs.push_piece.Statement.{statement}
 use Rattle.lowering.proofs.push_piece.Tie as tie
-use Rattle.lowering.proofs.push_piece.Reads as reads
-use Rattle.lowering.proofs.push_piece.Lts as lts
-use Rattle.stream.proofs.push_quad.Reads as push-quad-reads
 
 push-quad-requires : tie.Need-push-quad-requires
 push-quad-requires c κs = search needs
