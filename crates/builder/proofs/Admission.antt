@@ -36,12 +36,6 @@ pub admitted : (b x : Builder) (vn fn : ℕ) (n : Need) {r : Built} → r ≡ ad
 unfolding admitOf
 admitted b x vn fn n e d = admitted-go b x vn fn n _ _ refl refl (sym e ∙ d)
 
--- the record that comes back is the same one
-same-go : (b x : Builder) (p q : Bool) → cond p (BadRecord b) (cond q (Done b) (NoRoom b)) ≡ Done x → x ≡ b
-same-go b x true q e = let z : _≡_ {A = ℕ} 0 1 = cc in absurd (omega arith)
-same-go b x false true e = cc
-same-go b x false false e = let z : _≡_ {A = ℕ} 0 1 = cc in absurd (omega arith)
-
 module _ (s : State) (es : List Entry) where
   -- a call that was not admitted
   refused-go : (p q : Bool) → badState s ≡ p → roomFor s (elementsOf es) ≡ q → (r : Built) → OneOf (1 ∷ 2 ∷ []) (tagOf the-type r) → r ≡ cond p (BadRecord (s .builder)) (cond q (Done (s .builder)) (NoRoom (s .builder)))
@@ -62,3 +56,7 @@ module _ (s : State) (es : List Entry) where
   pub done-is : (t : State) → Admitted (s .builder) (length (s .verbs)) (length (s .floats)) (needOf (elementsOf es)) → t ≡ pushAll s (elementsOf es) → outcome 0 (jointWord es) t ≡ attempt s es
   unfolding attempt
   done-is t h e = ap (outcome 0 (jointWord es)) e ∙ rw (h .good, h .room)
+
+-- a need that is that of es
+pub admitted-for : (b x : Builder) (vn fn : ℕ) (n : Need) (es ds : List Entry) {r : Built} → n ≡ needOf (elementsOf es) → es ≡ ds → r ≡ admitOf b vn fn n → r ≡ Done x → Admitted b vn fn (needOf (elementsOf ds))
+admitted-for b x vn fn n es ds e f a d = admitted b x vn fn _ (a ∙ ap (admitOf b vn fn) (e ∙ ap (λ (l : List Entry). needOf (elementsOf l)) f)) d

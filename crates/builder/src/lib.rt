@@ -148,7 +148,7 @@ fn with_word(a: Built, word: u64) -> ConicBuilt
 }
 
 // The opening move of a builder that is empty.
-fn open(b: Builder, verbs: &mut [u8], points: &mut [f32]) -> Builder
+fn ensure_started(b: Builder, verbs: &mut [u8], points: &mut [f32]) -> Builder
     requires { ⌜ (b .verbs + (1 - b .verbs) ≤ length (now verbs)) × (2 * (b .points + (1 - b .verbs)) ≤ length (now points)) ⌝ }
     ensures { λ r. ⌜ state r (now (verbs .exit)) (now (points .exit)) ≡ pushAll (state b (now (verbs .entry)) (now (points .entry))) (elementsOf (opening (isEmpty b))) ⌝ }
 {
@@ -183,7 +183,7 @@ pub fn line_to(b: Builder, verbs: &mut [u8], points: &mut [f32], p: Point) -> Bu
     let Built::Done(_) = a else {
         return a;
     };
-    let o = open(b, verbs, points);
+    let o = ensure_started(b, verbs, points);
     Built::Done(stream::push_line(o, verbs, points, p))
 }
 
@@ -194,7 +194,7 @@ pub fn quad_to(b: Builder, verbs: &mut [u8], points: &mut [f32], ctrl: Point, p:
     let Built::Done(_) = a else {
         return a;
     };
-    let o = open(b, verbs, points);
+    let o = ensure_started(b, verbs, points);
     Built::Done(stream::push_quad(o, verbs, points, ctrl, p))
 }
 
@@ -212,7 +212,7 @@ pub fn cubic_to(
     let Built::Done(_) = a else {
         return a;
     };
-    let o = open(b, verbs, points);
+    let o = ensure_started(b, verbs, points);
     Built::Done(stream::push_cubic(o, verbs, points, c0, c1, p))
 }
 
@@ -231,7 +231,7 @@ pub fn conic_to(
     let Built::Done(_) = a else {
         return with_word(a, 0);
     };
-    let o = open(b, verbs, points);
+    let o = ensure_started(b, verbs, points);
     let w = lowering::push_lowered(o, verbs, points, l);
     let wb = w.builder;
     ConicBuilt::Done(wb, w.word)
@@ -246,7 +246,7 @@ pub fn close(b: Builder, verbs: &mut [u8], points: &mut [f32]) -> Built
         return a;
     };
     if b.verbs == 0 {
-        return a;
+        return Built::Done(b);
     }
     Built::Done(stream::push_close(b, verbs, points))
 }

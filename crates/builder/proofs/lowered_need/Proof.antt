@@ -1,42 +1,48 @@
+use Prim.Native.Nat.{ℕ, _*_}
+use Rattle.builder.proofs.Opening.{opened-need}
+use Rattle.lowering.proofs.Entries.{lowered-line, lowered-curve}
+use Rattle.lowering.specs.Entries.{loweredOf}
+use Rattle.stream.specs.Stream.{isEmpty}
+use Rattle.conic.proofs.Whole.{halve-few}
+use Rattle.conic.specs.Halving.{countOf}
+use native.Mathlib.Omega.{arith}
+use mathlib.Core.Path.{sym, ap, _∙_}
 use borrow.Author.Needs.{needs}
 use Rattle.builder.proofs.lowered_need.Statement.{statement}
 use Rattle.builder.proofs.lowered_need.Tie as tie
-use Rattle.builder.proofs.lowered_need.Reads as reads
-use Rattle.builder.proofs.lowered_need.Lts as lts
-use Rattle.builder.proofs.opened_need.Reads as opened-need-reads
-use Rattle.conic.proofs.count.Reads as count-reads
 
--- src/lib.rt:90:29
 enum-told : tie.Need-enum-told
 enum-told c = search needs
 
--- src/lib.rt:90:29
 opened-need-requires : tie.Need-opened-need-requires
 opened-need-requires c κs = search needs
 
--- src/lib.rt:91:24
 enum-known-l : tie.Need-enum-known-l
 enum-known-l c = search needs
 
--- src/lib.rt:92:17
 count-requires : tie.Need-count-requires
 count-requires c κs = search needs
 
--- src/lib.rt:93:31
 mul-opened-need : tie.Need-mul-opened-need
-mul-opened-need c = ?
+unfolding countOf
+mul-opened-need c = omega (arith, c .count .ensures, halve-few 6 (c .before .before .l .given .0 .0) 0)
 
--- src/lib.rt:93:13
 opened-need-requires-2 : tie.Need-opened-need-requires-2
-opened-need-requires-2 c κs = ?
+unfolding countOf
+opened-need-requires-2 c κs = omega (arith, c .count .ensures, halve-few 6 (c .before .before .l .given .0 .0) 0)
 
--- src/lib.rt:86:1
 returns : tie.Need-returns
-returns c = ?
+returns c =
+    let a = c .before .before .before .args in
+    let h = lowered-line (a .l) _ (c .before .enum-told .given .1) in
+    c .opened-need .ensures ∙ opened-need (isEmpty (a .b)) (loweredOf (a .l)) 1 1 (sym (h .many)) (sym (h .size))
 
--- src/lib.rt:86:1
 returns-2 : tie.Need-returns-2
-returns-2 c = ?
+unfolding countOf
+returns-2 c =
+    let a = c .before .before .before .before .before .args in
+    let h = lowered-curve (a .l) _ (c .before .before .before .l .given .1) in
+    c .opened-need2 .ensures ∙ opened-need (isEmpty (a .b)) (loweredOf (a .l)) _ _ (c .before .count .ensures ∙ sym (h .many)) (ap (λ (n : ℕ). 2 * n) (c .before .count .ensures) ∙ sym (h .size))
 
 pub lowered-need-spec : {M : Type 1} → statement M
 lowered-need-spec =
