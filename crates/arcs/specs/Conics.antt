@@ -3,23 +3,18 @@ use Prim.Native.Nat.{ℕ, _+_}
 use mathlib.Core.Bool.{cond}
 use mathlib.Core.List.{List, [], _∷_}
 use lib.IntN.{pos}
-use lib.ListN.{getD}
-use lib.Ieee.{Float, nan, binary32, ofBits, ofInt, neg, lt, le}
+use lib.Ieee.{Float, binary32, ofBits, ofInt, neg, lt, le}
 use Rattle.ieee.specs.Basic.{absOf, clampOf}
 use Rattle.ieee.specs.Sqrt.{sqrtOf}
 use Rattle.geometry.specs.declared.Point.{Point}
 use Rattle.geometry.specs.Point.{one, addOf, shrinkOf}
 use Rattle.exponential.specs.Power.{powOf}
 use Rattle.octant.specs.Binary32.{_⊕_, _⊖_, _⊗_, _⊘_, zero, two}
-use Rattle.octant.specs.Degree.{leftRowOf}
+use Rattle.octant.specs.Degree.{row, entry, leftRowOf}
 use Rattle.octant.specs.Octant.{point, closeEnough}
 use Rattle.octant.specs.declared.Octant.{Octant}
 use Rattle.arcs.specs.declared.ConicFactors.{ConicFactors}
 use Rattle.arcs.specs.declared.SuperellipseConics.{SuperellipseConics}
-
--- a row, by its two patterns
-abbrev row : ℕ → ℕ → List Float
-row w1 w2 = ofBits binary32 w1 ∷ ofBits binary32 w2 ∷ []
 
 -- normalized weights of the two conics, for the degrees 2 to 14
 abbrev pub conicTable : List (List Float)
@@ -39,9 +34,8 @@ conicTable =
     ∷ row 0x3f78_72b0 0x3fa4_dd2f  -- 14: 0.9705, 1.2880
     ∷ []
 
--- the table's entry at a row and a column
 unfoldable pub conicAt : ℕ → ℕ → Float
-conicAt left column = getD (getD conicTable left []) column nan
+conicAt left column = entry conicTable left column
 
 -- the table's stride, first degree and last row
 abbrev step : Float

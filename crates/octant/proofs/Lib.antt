@@ -1,2 +1,4 @@
--- Facts on the left row that the functions' proofs cite, and the examples.
+-- The left row's law, that an octant can be moved, and document 01's examples of degrees.
 pub mod Rows
+pub mod Moving
+pub mod Examples

@@ -10,9 +10,12 @@ use Rattle.geometry.specs.Point.{one}
 use Rattle.octant.specs.Binary32.{_⊕_, _⊖_, _⊗_, _⊘_}
 use Rattle.octant.specs.declared.NAndXj.{NAndXj}
 
--- a row, by its two patterns
-abbrev row : ℕ → ℕ → List Float
-row n k = ofBits binary32 n ∷ ofBits binary32 k ∷ []
+-- a table's row, by its two patterns, and the entry at a row and a column
+abbrev pub row : ℕ → ℕ → List Float
+row a b = ofBits binary32 a ∷ ofBits binary32 b ∷ []
+
+abbrev pub entry : List (List Float) → ℕ → ℕ → Float
+entry table left column = getD (getD table left []) column nan
 
 -- the degree n and k_xJ, fitted against the ratio of side to radius
 abbrev pub cornerTable : List (List Float)
@@ -30,9 +33,8 @@ cornerTable =
     ∷ row 0x40cd_c482 0x403e_bbaa  -- 5.00: 6.430238, 2.980204
     ∷ []
 
--- the table's entry at a row and a column
 unfoldable pub cornerAt : ℕ → ℕ → Float
-cornerAt left column = getD (getD cornerTable left []) column nan
+cornerAt left column = entry cornerTable left column
 
 -- the rows' two zones, and the straight line past them
 abbrev pub minRatio : Float

@@ -60,3 +60,15 @@ computeOctantOf center a radius =
     let circleCenter = circleCenterThroughOf pointJ pointM r in
     let circleMaxAngle = angleBetweenOf (subOf pointM circleCenter) (subOf pointJ circleCenter) in
     record { offset = center; «se_a» = a; «se_n» = n; «circle_start» = pointJ; «circle_center» = circleCenter; «circle_max_angle» = circleMaxAngle })
+
+-- the octant with another offset
+unfoldable pub movedOf : Octant → Point → Octant
+movedOf octant center =
+    record {
+      offset = center;
+      «se_a» = octant .«se_a»;
+      «se_n» = octant .«se_n»;
+      «circle_start» = octant .«circle_start»;
+      «circle_center» = octant .«circle_center»;
+      «circle_max_angle» = octant .«circle_max_angle»;
+    }

@@ -3,7 +3,7 @@
 ghost use mathlib.Core.Path.{_≡_};
 ghost use Prim.Native.Nat.{_<_};
 ghost use Rattle.octant.specs.Degree.{cornerAt, leftRowOf, tableStepsOf, nAndXjOf};
-ghost use Rattle.octant.specs.Octant.{circleCenterThroughOf, angleBetweenOf, computeOctantOf};
+ghost use Rattle.octant.specs.Octant.{circleCenterThroughOf, angleBetweenOf, computeOctantOf, movedOf};
 use geometry::Point;
 
 // The radius up to which a corner is square.
@@ -180,5 +180,21 @@ pub fn compute_octant(center: Point, a: f32, radius: f32) -> Octant
         circle_start: point_j,
         circle_center,
         circle_max_angle: angle_between(from, to),
+    }
+}
+
+// The same octant elsewhere: nothing but the offset tells where an octant is.
+pub fn moved(octant: Octant, center: Point) -> Octant
+    ensures { λ r. ⌜ r ≡ movedOf octant center ⌝ }
+{
+    let circle_start = octant.circle_start;
+    let circle_center = octant.circle_center;
+    Octant {
+        offset: center,
+        se_a: octant.se_a,
+        se_n: octant.se_n,
+        circle_start,
+        circle_center,
+        circle_max_angle: octant.circle_max_angle,
     }
 }

@@ -1,6 +1,8 @@
 // One quarter of the outline: two octants of a corner that is solved round and stretched back.
 // Binary32 throughout, every operation rounded once, with the Rust's names and in its order.
 ghost use mathlib.Core.Path.{_≡_};
+ghost use mathlib.Core.Bool.{true};
+ghost use Rattle.octant.specs.Octant.{computeOctantOf};
 ghost use Rattle.quadrant.specs.Quadrant.{forwardScaleOf, orSignOf, computeQuadrantOf, bothZero, splitOf};
 use geometry::Point;
 use octant::Octant;
@@ -33,6 +35,30 @@ fn or_sign(raw: f32, sign: f32) -> f32
     raw
 }
 
+// Whether two floats are one: no NaN, and the same pattern, so that -0 is not +0.
+fn is_one_float(x: f32, y: f32) -> bool
+    ensures { λ r. ⌜ (r ≡ true → x ≡ y) ⌝ }
+{
+    if x != x {
+        return false;
+    }
+    if y != y {
+        return false;
+    }
+    f32::to_bits(x) == f32::to_bits(y)
+}
+
+// Octants of the same half-extent differ in their offset alone, so one solve serves both.
+fn right_octant(top: Octant, from: Point, to: Point, half_size: Point, radius: f32) -> Octant
+    requires { ⌜ top ≡ computeOctantOf from («half_size» .x) radius ⌝ }
+    ensures { λ r. ⌜ r ≡ computeOctantOf to («half_size» .y) radius ⌝ }
+{
+    if is_one_float(half_size.x, half_size.y) {
+        return octant::moved(top, to);
+    }
+    octant::compute_octant(to, half_size.y, radius)
+}
+
 pub fn compute_quadrant(center: Point, corner: Point, in_radii: Point, sign: Point) -> Quadrant
     ensures { λ r. ⌜ r ≡ computeQuadrantOf center corner «in_radii» sign ⌝ }
 {
@@ -51,11 +77,14 @@ pub fn compute_quadrant(center: Point, corner: Point, in_radii: Point, sign: Poi
     };
     // The two octants' superellipses are offset by the same distance in opposite directions.
     let c = norm_half_size.x - norm_half_size.y;
+    let top_offset = Point { x: 0.0, y: -c };
+    let right_offset = Point { x: c, y: 0.0 };
+    let top = octant::compute_octant(top_offset, norm_half_size.x, norm_radius);
     Quadrant {
         offset: center,
         signed_scale,
-        top: octant::compute_octant(Point { x: 0.0, y: -c }, norm_half_size.x, norm_radius),
-        right: octant::compute_octant(Point { x: c, y: 0.0 }, norm_half_size.y, norm_radius),
+        top,
+        right: right_octant(top, top_offset, right_offset, norm_half_size, norm_radius),
     }
 }
 

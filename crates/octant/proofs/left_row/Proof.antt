@@ -8,8 +8,6 @@ use lib.Ieee.{toUnsigned}
 use Rattle.octant.proofs.Rows.{le-whole, casts}
 use Rattle.octant.proofs.left_row.Statement.{statement}
 use Rattle.octant.proofs.left_row.Tie as tie
-use Rattle.octant.proofs.left_row.Reads as reads
-use Rattle.octant.proofs.left_row.Lts as lts
 
 abbrev Inv-loop : tie.InvT-loop
 Inv-loop steps last end left₀ left = (end ≡ last) × (end < 256) × (left ≤ end) × (left ≤ toUnsigned 64 steps)
