@@ -3,7 +3,7 @@ use mathlib.Core.List.{List, [], _∷_}
 use lib.Ieee.{Float, binary32, ofBits, neg}
 use Rattle.geometry.specs.declared.Point.{Point}
 use Rattle.geometry.specs.Point.{addOf, subOf, scaleOf, lengthOf, normalizeOf}
-use Rattle.trigonometry.specs.Angle.{sinCosOf, tanOf}
+use Rattle.trigonometry.specs.Sine.{sinCosOf, tanOf}
 use Rattle.octant.specs.Binary32.{_⊕_, _⊖_, _⊗_, _⊘_}
 use Rattle.octant.specs.Octant.{point}
 use Rattle.octant.specs.declared.Octant.{Octant}

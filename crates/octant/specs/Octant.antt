@@ -5,7 +5,7 @@ use Rattle.ieee.specs.Sqrt.{sqrtOf}
 use Rattle.geometry.specs.declared.Point.{Point}
 use Rattle.geometry.specs.Point.{one, addOf, subOf, shrinkOf, lengthOf, normalizeOf}
 use Rattle.exponential.specs.Power.{powOf}
-use Rattle.trigonometry.specs.Angle.{atan2Of}
+use Rattle.trigonometry.specs.Arctangent.{atan2Of}
 use Rattle.octant.specs.Binary32.{_⊕_, _⊖_, _⊗_, _⊘_, zero, two}
 use Rattle.octant.specs.Degree.{nAndXjOf}
 use Rattle.octant.specs.declared.Octant.{Octant}

@@ -1,0 +1,102 @@
+-- Laws of a file's records: a record lies within the file, and the records from an offset on are the one that stands there and those from the offset past it on. Assumes nothing.
+use mathlib.Core.Path.{_≡_, refl, sym, ap, _∙_}
+use mathlib.Core.Bool.{Bool, true, false, cond}
+use mathlib.Core.List.{List, [], _∷_}
+use Prim.Native.Nat.{ℕ, zero, suc, _+_, _-_, _≤_, _<_}
+use native.Mathlib.Omega.{arith}
+use lib.ListN.{length}
+use lib.Dec.{leb, ltb, eqb}
+use borrow.Author.Tests.{ltb-false, leb-true, leb-false}
+use Rattle.panel_file.specs.Bytes.{u16At}
+use Rattle.panel_file.specs.declared.Kind.{Kind}
+use Rattle.panel_file.specs.declared.KindFound.{KindFound}
+use Rattle.panel_file.specs.declared.KindFound.the-variants.{Known, Unknown}
+use Rattle.panel_file.specs.declared.Record.{Record}
+use Rattle.panel_file.specs.declared.Head.{Head}
+use Rattle.panel_file.specs.declared.Head.the-variants.{Whole, End, Broken}
+use Rattle.panel_file.specs.Panel.{Answer, done, refused, limit, header, kindOf, payloadOf, wholeOf, headAt, contentAt, Entry, entry, end, entryOf, recordAt, onDone, followed, readings, recordsFrom}
+
+-- the offset past a record, and n where there is none
+abbrev past : ℕ → Answer Entry → ℕ
+past n (done (entry r next)) = next
+past n (done end) = n
+past n (refused k o) = n
+
+-- ---- a record lies within the file
+
+known-fits : (left at : ℕ) (k kind : Kind) (b₁ b₂ : Bool) → leb (header + payloadOf k) left ≡ b₂
+    → cond b₁ (cond b₂ (Whole k) (Broken at)) (Broken at) ≡ Whole kind → header + payloadOf kind ≤ left
+known-fits left at k kind true true q e =
+    let same : k ≡ kind = cc in rw (ap payloadOf same) at (leb-true (header + payloadOf k) left q)
+known-fits left at k kind true false q e = let z : _≡_ {A = ℕ} 0 1 = cc in absurd (omega arith)
+known-fits left at k kind false b₂ q e = let z : _≡_ {A = ℕ} 0 1 = cc in absurd (omega arith)
+
+found-fits : (found : KindFound) (len left at : ℕ) (kind : Kind) → wholeOf found len left at ≡ Whole kind → header + payloadOf kind ≤ left
+unfolding wholeOf
+found-fits (Known k) len left at kind e = known-fits left at k kind (eqb len (payloadOf k)) (leb (header + payloadOf k) left) refl e
+found-fits Unknown len left at kind e = let z : _≡_ {A = ℕ} 0 1 = cc in absurd (omega arith)
+
+module _ (file : List ℕ) (at : ℕ) (kind : Kind) where
+  fits-by : (b₁ b₂ b₃ : Bool) → ltb limit (length file) ≡ b₁ → leb (length file) at ≡ b₂
+      → cond b₁ (Broken 0) (cond b₂ End (cond b₃ (Broken at) (wholeOf (kindOf (u16At file (at + 2))) (u16At file at) (length file - at) at))) ≡ Whole kind
+      → (at + header + payloadOf kind ≤ length file) × (length file ≤ limit)
+  fits-by true b₂ b₃ q₁ q₂ e = let z : _≡_ {A = ℕ} 0 1 = cc in absurd (omega arith)
+  fits-by false true b₃ q₁ q₂ e = let z : _≡_ {A = ℕ} 0 1 = cc in absurd (omega arith)
+  fits-by false false true q₁ q₂ e = let z : _≡_ {A = ℕ} 0 1 = cc in absurd (omega arith)
+  fits-by false false false q₁ q₂ e =
+      let l = ltb-false limit (length file) q₁ in
+      let m = leb-false (length file) at q₂ in
+      let f = found-fits (kindOf (u16At file (at + 2))) (u16At file at) (length file - at) at kind e in
+      omega arith
+
+  pub whole-within : headAt file at ≡ Whole kind → (at + header + payloadOf kind ≤ length file) × (length file ≤ limit)
+  unfolding headAt
+  whole-within e = fits-by (ltb limit (length file)) (leb (length file) at) (ltb (length file - at) header) refl refl e
+
+-- what reading a record says, for a head that is any of the three
+entry-within : (file : List ℕ) (at : ℕ) (r : Record) (next : ℕ) (head : Head) → headAt file at ≡ head → entryOf file at head ≡ done (entry r next)
+    → (at < next) × (next ≤ length file) × (length file ≤ limit)
+unfolding entryOf
+entry-within file at r next (Whole kind) q e =
+    let h = whole-within file at kind q in
+    let n : at + header + payloadOf kind ≡ next = ap (past 0) e in
+    omega arith
+entry-within file at r next End q e = let z : _≡_ {A = ℕ} 0 1 = cc in absurd (omega arith)
+entry-within file at r next (Broken o) q e = let z : _≡_ {A = ℕ} 0 1 = cc in absurd (omega arith)
+
+pub record-within : (file : List ℕ) (at : ℕ) (r : Record) (next : ℕ) → recordAt file at ≡ done (entry r next)
+    → (at < next) × (next ≤ length file) × (length file ≤ limit)
+unfolding recordAt
+record-within file at r next e = entry-within file at r next (headAt file at) refl e
+
+-- ---- the records from an offset on
+
+-- readings that agree past a record agree at it
+further : (f g : ℕ → Answer (List Record)) (file : List ℕ) (at : ℕ) (a : Answer Entry) → recordAt file at ≡ a
+    → ((next : ℕ) → at < next → next ≤ length file → f next ≡ g next) → followed f a ≡ followed g a
+unfolding followed
+further f g file at (done (entry r next)) e h =
+    let w = record-within file at r next e in
+    ap (onDone (λ rs. r ∷ rs)) (h next (w .0) (w .1))
+further f g file at (done end) e h = refl
+further f g file at (refused c o) e h = refl
+
+-- any number of readings above that of the bytes left comes to the same
+enough : (n m : ℕ) (file : List ℕ) (at : ℕ) → length file - at < n → length file - at < m → readings n file at ≡ readings m file at
+unfolding readings
+enough zero m file at h k = absurd (omega arith)
+enough (suc n) zero file at h k = absurd (omega arith)
+enough (suc n) (suc m) file at h k =
+    further (readings n file) (readings m file) file at (recordAt file at) refl
+    (λ next a b. enough n m file next (omega arith) (omega arith))
+
+-- the record that stands at an offset, then the records from the offset past it on
+pub records-follow : (file : List ℕ) (at : ℕ) → recordsFrom file at ≡ followed (recordsFrom file) (recordAt file at)
+unfolding recordsFrom readings
+records-follow file at =
+    further (readings (length file - at) file) (recordsFrom file) file at (recordAt file at) refl
+    (λ next a b. enough (length file - at) (suc (length file - next)) file next (omega arith) (omega arith))
+
+pub head-follow : (file : List ℕ) (at : ℕ) (head : Head) → headAt file at ≡ head → recordsFrom file at ≡ followed (recordsFrom file) (entryOf file at head)
+unfolding recordAt
+head-follow file at head e = records-follow file at ∙ ap (λ (h : Head). followed (recordsFrom file) (entryOf file at h)) e

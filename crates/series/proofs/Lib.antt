@@ -1,0 +1,2 @@
+pub mod Horners
+pub mod Families

@@ -1,0 +1,4 @@
+pub mod Patterns
+pub mod Placing
+pub mod Scanning
+pub mod Spelling
