@@ -131,6 +131,34 @@ fn two((x, y): (f32, f32)) -> String {
     format!("{} {}", one(x), one(y))
 }
 
+fn pow() {
+    elementary(
+        "pow",
+        |r| (r.single(), r.single()),
+        pow_operands,
+        |(b, y)| (library::pow(b, y), 0.0),
+        |(b, y)| (ground::pow(b, y), 0.0),
+        two,
+    );
+}
+
+/// Bases from 0 to 2 or at any scale, exponents n, n - 1 or 1/n of a degree n up to 1.1e8.
+fn pow_operands(r: &mut Random) -> (f32, f32) {
+    let b = if r.below(2) == 0 {
+        r.within(0.0, 2.0)
+    } else {
+        r.scaled(1e-45, 3.4e38)
+    };
+    let greatest = if r.below(2) == 0 { 20.0 } else { 1.1e8 };
+    let n = r.scaled(2.0, greatest);
+    let y = match r.below(3) {
+        0 => n,
+        1 => n - 1.0,
+        _ => 1.0 / n,
+    };
+    (b as f32, y as f32)
+}
+
 fn sin_cos() {
     elementary(
         "sin_cos",
@@ -165,9 +193,10 @@ fn atan2() {
 }
 
 pub fn run(names: &[&str]) {
-    let all: [(&str, fn()); 5] = [
+    let all: [(&str, fn()); 6] = [
         ("sqrt", sqrt),
         ("narrow", narrow),
+        ("pow", pow),
         ("sin_cos", sin_cos),
         ("tan", tan),
         ("atan2", atan2),

@@ -4,6 +4,7 @@ mod c {
     extern "C" {
         pub fn shackletongue_narrow(x: f64) -> f32;
         pub fn shackletongue_sqrt(x: f32) -> f32;
+        pub fn shackletongue_pow(b: f32, y: f32) -> f32;
         pub fn shackletongue_sin_cos(t: f32, sin: &mut f32, cos: &mut f32);
         pub fn shackletongue_tan(t: f32) -> f32;
         pub fn shackletongue_atan2(y: f32, x: f32) -> f32;
@@ -18,6 +19,10 @@ pub fn narrow(x: f64) -> f32 {
 
 pub fn sqrt(x: f32) -> f32 {
     unsafe { c::shackletongue_sqrt(x) }
+}
+
+pub fn pow(b: f32, y: f32) -> f32 {
+    unsafe { c::shackletongue_pow(b, y) }
 }
 
 pub fn sin_cos(t: f32) -> (f32, f32) {

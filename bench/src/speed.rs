@@ -96,6 +96,10 @@ pub fn run(names: &[&str]) {
     compare!(names, "sqrt", inputs(|r| r.within(0.0, 4e6) as f32), tie,
         "library" => |x| bits(library::sqrt(x)),
         "machine" => |x| bits(machine::sqrt(x)));
+    compare!(names, "pow", inputs(|r| (r.within(0.0, 1.0) as f32, r.within(2.0, 14.0) as f32)), tie_pair,
+        "library" => |(b, y)| bits(library::pow(b, y)),
+        "oracle" => |(b, y)| bits(written::pow(b, y)),
+        "std" => |(b, y)| bits(platform::pow(b, y)));
     compare!(names, "sin_cos", inputs(|r| r.within(-8.0, 8.0) as f32), tie,
         "library" => |x| both(library::sin_cos(x)),
         "oracle" => |x| both(written::sin_cos(x)),

@@ -4,6 +4,7 @@ ghost use mathlib.Core.Path.{_≡_};
 ghost use lib.Ieee.{binary32};
 ghost use Rattle.ieee.specs.Narrow.{narrowOf};
 ghost use Rattle.ieee.specs.Sqrt.{sqrtOf};
+ghost use Rattle.exponential.specs.Power.{powOf};
 ghost use Rattle.trigonometry.specs.Sine.{sinCosOf, tanOf};
 ghost use Rattle.trigonometry.specs.Arctangent.{atan2Of};
 
@@ -19,6 +20,13 @@ pub extern "C" fn shackletongue_sqrt(x: f32) -> f32
     ensures { λ r. ⌜ r ≡ sqrtOf binary32 x ⌝ }
 {
     ieee::sqrt(x)
+}
+
+#[no_mangle]
+pub extern "C" fn shackletongue_pow(b: f32, y: f32) -> f32
+    ensures { λ r. ⌜ r ≡ powOf b y ⌝ }
+{
+    exponential::pow(b, y)
 }
 
 // The sine and the cosine go to the two places lent.

@@ -81,6 +81,16 @@ fn point_alone(name: &[u8], p: Point) -> Answer {
     point_measure(name, p)
 }
 
+fn elementary_of_two(name: &[u8], a: f32, b: f32) -> Answer {
+    if same(name, b"pow") {
+        return Answer::Single(exponential::pow(a, b));
+    }
+    if same(name, b"atan2") {
+        return Answer::Single(trigonometry::atan2(a, b));
+    }
+    point_alone(name, Point { x: a, y: b })
+}
+
 fn of_two(name: &[u8], a: f32, b: f32) -> Answer {
     if same(name, b"min") {
         return Answer::Single(ieee::min(a, b));
@@ -88,10 +98,7 @@ fn of_two(name: &[u8], a: f32, b: f32) -> Answer {
     if same(name, b"max") {
         return Answer::Single(ieee::max(a, b));
     }
-    if same(name, b"atan2") {
-        return Answer::Single(trigonometry::atan2(a, b));
-    }
-    point_alone(name, Point { x: a, y: b })
+    elementary_of_two(name, a, b)
 }
 
 fn of_three(name: &[u8], a: f32, b: f32, c: f32) -> Answer {
