@@ -1,5 +1,5 @@
-use Rattle.builder.proofs.Opened.{no-word}
-use Rattle.builder.specs.Calls.{step}
+use Rattle.calls.proofs.Opened.{no-word}
+use Rattle.calls.specs.Calls.{step}
 use Rattle.stream.specs.Stream.{State, state}
 use mathlib.Core.Path.{sym, ap, _∙_}
 use borrow.Author.Needs.{needs}
