@@ -1,7 +1,7 @@
-use Rattle.builder.specs.Calls.{withWord}
+use Rattle.calls.specs.Calls.{withWord}
 use borrow.Author.Needs.{needs}
-use Rattle.builder.proofs.with_word.Statement.{statement}
-use Rattle.builder.proofs.with_word.Tie as tie
+use Rattle.calls.proofs.with_word.Statement.{statement}
+use Rattle.calls.proofs.with_word.Tie as tie
 
 enum-known-a : tie.Need-enum-known-a
 enum-known-a c = search needs
@@ -13,15 +13,12 @@ enum-known-a-3 : tie.Need-enum-known-a-3
 enum-known-a-3 c = search needs
 
 returns : tie.Need-returns
-unfolding withWord
 returns c = rw (c .before .a .given .1)
 
 returns-2 : tie.Need-returns-2
-unfolding withWord
 returns-2 c = rw (c .before .a2 .given .1)
 
 returns-3 : tie.Need-returns-3
-unfolding withWord
 returns-3 c = rw (c .before .a3 .given .1)
 
 pub with-word-spec : {M : Type 1} → statement M

@@ -20,14 +20,14 @@ use Rattle.stream.proofs.Tests.{room-is}
 use Rattle.stream.proofs.Push.{push-all-one, push-all-append, push-all-verbs, push-all-points, sizes-append, sizes-one}
 use Rattle.lowering.specs.Entries.{Entry, plain, elementsOf, piecesIn, jointWord, loweredOf}
 use Rattle.lowering.proofs.Entries.{elements-append}
-use Rattle.builder.specs.declared.Built.{Built}
-use Rattle.builder.specs.declared.Built.the-variants.{Done, BadRecord, NoRoom}
-use Rattle.builder.specs.declared.ConicBuilt.{ConicBuilt}
-use Rattle.builder.specs.declared.Call.the-variants as call
-use Rattle.builder.specs.Calls.{opening, openedNeed, conicFrom, entriesOf, outcome, attempt, step, admitOf, withWord, outcomeOf, conicOutcomeOf}
-use Rattle.builder.proofs.Built.{the-type}
-use Rattle.builder.proofs.Opening.{word-opened, opened-need, opening-count, opening-size}
-use Rattle.builder.proofs.Admission.{Admitted, admitted-for, refused-is, done-is}
+use Rattle.calls.specs.declared.Built.{Built}
+use Rattle.calls.specs.declared.Built.the-variants.{Done, BadRecord, NoRoom}
+use Rattle.calls.specs.declared.ConicBuilt.{ConicBuilt}
+use Rattle.calls.specs.declared.Call.the-variants as call
+use Rattle.calls.specs.Calls.{opening, openedNeed, conicFrom, entriesOf, outcome, attempt, step, admitOf, withWord, outcomeOf, conicOutcomeOf}
+use Rattle.calls.proofs.Built.{the-type}
+use Rattle.calls.proofs.Opening.{word-opened, opened-need, opening-count, opening-size}
+use Rattle.calls.proofs.Admission.{Admitted, admitted-for, refused-is, done-is}
 
 -- an element alone
 pub one-need : (b : Builder) (k : Element) → openedNeed (isEmpty b) 1 (sizeOf k) ≡ needOf (elementsOf (opening (isEmpty b) ++ plain k ∷ []))

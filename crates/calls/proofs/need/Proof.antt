@@ -1,11 +1,11 @@
-use Rattle.builder.proofs.Opened.{one-need}
-use Rattle.builder.specs.Calls.{entriesOf}
+use Rattle.calls.proofs.Opened.{one-need}
+use Rattle.calls.specs.Calls.{entriesOf}
 use Rattle.lowering.specs.Entries.{elementsOf}
 use Rattle.stream.specs.Stream.{sizesOf, isEmpty}
 use mathlib.Core.Path.{refl, ap, _∙_}
 use borrow.Author.Needs.{needs}
-use Rattle.builder.proofs.need.Statement.{statement}
-use Rattle.builder.proofs.need.Tie as tie
+use Rattle.calls.proofs.need.Statement.{statement}
+use Rattle.calls.proofs.need.Tie as tie
 
 enum-told : tie.Need-enum-told
 enum-told c = search needs

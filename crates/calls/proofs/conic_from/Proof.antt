@@ -1,7 +1,7 @@
 use borrow.Author.Tests.{eq-eqb, ne-eqb}
-use Rattle.builder.specs.Calls.{conicFrom}
-use Rattle.builder.proofs.conic_from.Statement.{statement}
-use Rattle.builder.proofs.conic_from.Tie as tie
+use Rattle.calls.specs.Calls.{conicFrom}
+use Rattle.calls.proofs.conic_from.Statement.{statement}
+use Rattle.calls.proofs.conic_from.Tie as tie
 
 returns : tie.Need-returns
 returns c = rw (eq-eqb _ _ (c .if1 .taken))

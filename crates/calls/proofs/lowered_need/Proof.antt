@@ -1,15 +1,15 @@
-use Prim.Native.Nat.{ℕ, _*_}
-use Rattle.builder.proofs.Opening.{opened-need}
+use Rattle.calls.proofs.Opening.{opened-need}
 use Rattle.lowering.proofs.Entries.{lowered-line, lowered-curve}
 use Rattle.lowering.specs.Entries.{loweredOf}
 use Rattle.stream.specs.Stream.{isEmpty}
 use Rattle.conic.proofs.Whole.{halve-few}
 use Rattle.conic.specs.Halving.{countOf}
 use native.Mathlib.Omega.{arith}
+use Prim.Native.Nat.{ℕ, _*_}
 use mathlib.Core.Path.{sym, ap, _∙_}
 use borrow.Author.Needs.{needs}
-use Rattle.builder.proofs.lowered_need.Statement.{statement}
-use Rattle.builder.proofs.lowered_need.Tie as tie
+use Rattle.calls.proofs.lowered_need.Statement.{statement}
+use Rattle.calls.proofs.lowered_need.Tie as tie
 
 enum-told : tie.Need-enum-told
 enum-told c = search needs
@@ -23,13 +23,16 @@ enum-known-l c = search needs
 count-requires : tie.Need-count-requires
 count-requires c κs = search needs
 
+cast-k : tie.Need-cast-k
+unfolding countOf
+cast-k c = omega (arith, c .count .ensures, halve-few 6 (c .before .before .l .given .0 .0) 0)
+
 mul-opened-need : tie.Need-mul-opened-need
 unfolding countOf
 mul-opened-need c = omega (arith, c .count .ensures, halve-few 6 (c .before .before .l .given .0 .0) 0)
 
 opened-need-requires-2 : tie.Need-opened-need-requires-2
-unfolding countOf
-opened-need-requires-2 c κs = omega (arith, c .count .ensures, halve-few 6 (c .before .before .l .given .0 .0) 0)
+opened-need-requires-2 c κs = search needs
 
 returns : tie.Need-returns
 returns c =
@@ -52,6 +55,7 @@ lowered-need-spec =
     opened-need-requires
     enum-known-l
     count-requires
+    cast-k
     mul-opened-need
     opened-need-requires-2
     returns

@@ -1,7 +1,7 @@
-use Rattle.builder.specs.Calls.{admitOf}
+use Rattle.calls.specs.Calls.{admitOf}
 use borrow.Author.Needs.{needs}
-use Rattle.builder.proofs.admit.Statement.{statement}
-use Rattle.builder.proofs.admit.Tie as tie
+use Rattle.calls.proofs.admit.Statement.{statement}
+use Rattle.calls.proofs.admit.Tie as tie
 
 bad-record-requires : tie.Need-bad-record-requires
 bad-record-requires c κs = search needs

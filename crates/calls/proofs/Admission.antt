@@ -17,10 +17,10 @@ use Rattle.stream.proofs.Tests.{room-is}
 use Rattle.stream.proofs.Push.{push-all-append, push-all-one}
 use Rattle.lowering.specs.Entries.{Entry, plain, elementsOf, jointWord}
 use Rattle.lowering.proofs.Entries.{elements-append}
-use Rattle.builder.specs.declared.Built.{Built}
-use Rattle.builder.specs.declared.Built.the-variants.{Done, BadRecord, NoRoom}
-use Rattle.builder.specs.Calls.{opening, Outcome, outcome, attempt, admitOf, outcomeOf, conicOutcomeOf, withWord}
-use Rattle.builder.proofs.Built.{the-type}
+use Rattle.calls.specs.declared.Built.{Built}
+use Rattle.calls.specs.declared.Built.the-variants.{Done, BadRecord, NoRoom}
+use Rattle.calls.specs.Calls.{opening, Outcome, outcome, attempt, admitOf, outcomeOf, conicOutcomeOf, withWord}
+use Rattle.calls.proofs.Built.{the-type}
 
 -- what holds where a need is admitted
 pub record Admitted (b : Builder) (vn fn : ℕ) (n : Need) : Type 0 where

@@ -1,8 +1,8 @@
 use Rattle.lowering.specs.Entries.{elementsOf}
 use Rattle.stream.specs.Stream.{sizesOf}
 use borrow.Author.Tests.{eq-eqb, ne-eqb}
-use Rattle.builder.proofs.close_need.Statement.{statement}
-use Rattle.builder.proofs.close_need.Tie as tie
+use Rattle.calls.proofs.close_need.Statement.{statement}
+use Rattle.calls.proofs.close_need.Tie as tie
 
 returns : tie.Need-returns
 unfolding elementsOf sizesOf

@@ -11,7 +11,7 @@ use Rattle.stream.specs.declared.Element.the-variants.{Close}
 use Rattle.stream.specs.declared.Need.{Need}
 use Rattle.stream.specs.Stream.{sizesOf, needOf}
 use Rattle.lowering.specs.Entries.{Entry, plain, elementsOf, piecesIn, jointWord}
-use Rattle.builder.specs.Calls.{opening, closing, openedNeed}
+use Rattle.calls.specs.Calls.{opening, closing, openedNeed}
 
 -- it has no piece
 pub word-opened : (e : Bool) (es : List Entry) → jointWord (opening e ++ es) ≡ jointWord es
