@@ -7,5 +7,8 @@ fn main() {
     let folder = manifest.join("../target/staticlib");
     println!("cargo:rustc-link-search=native={}", folder.display());
     println!("cargo:rustc-link-lib=static=ffi");
-    println!("cargo:rerun-if-changed={}", folder.join("libffi.a").display());
+    println!(
+        "cargo:rerun-if-changed={}",
+        folder.join("libffi.a").display()
+    );
 }

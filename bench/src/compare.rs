@@ -1,7 +1,14 @@
 //! The library against the machine's own instructions and against the oracle, in bulk.
 
+use crate::library;
+use crate::others::machine;
+use oracle::ground;
 use oracle::random::Random;
-use crate::{library, machine};
+
+/// Equal bits, or a NaN both.
+fn same(a: f32, b: f32) -> bool {
+    a.to_bits() == b.to_bits() || (a.is_nan() && b.is_nan())
+}
 
 /// How many cases were compared and how many differ; the first few of those are printed.
 struct Count {
@@ -19,19 +26,25 @@ impl Count {
         }
     }
 
-    /// Equal bits, or a NaN both.
     fn case(&mut self, ours: f32, theirs: f32, operands: impl Fn() -> String) {
         self.cases += 1;
-        if ours.to_bits() != theirs.to_bits() && !(ours.is_nan() && theirs.is_nan()) {
-            self.differ += 1;
-            if self.differ <= 10 {
-                println!("{} {}: {ours:e}, not {theirs:e}", self.name, operands());
-            }
+        if !same(ours, theirs) {
+            self.differ(ours, theirs, operands);
+        }
+    }
+
+    fn differ(&mut self, ours: f32, theirs: f32, operands: impl Fn() -> String) {
+        self.differ += 1;
+        if self.differ <= 10 {
+            println!("{} {}: {ours:e}, not {theirs:e}", self.name, operands());
         }
     }
 
     fn print(&self, what: &str) {
-        println!("{}: {} {what}, {} differ", self.name, self.cases, self.differ);
+        println!(
+            "{}: {} {what}, {} differ",
+            self.name, self.cases, self.differ
+        );
     }
 }
 
@@ -42,7 +55,7 @@ fn sqrt() {
         let x = f32::from_bits(n);
         count.case(library::sqrt(x), machine::sqrt(x), || format!("{n:08x}"));
     }
-    count.print("patterns, all there are,");
+    count.print("patterns (all there are)");
 }
 
 /// About every sixteenth f32 of either sign: its value, the midpoint to the next, and one f64 to
@@ -52,11 +65,16 @@ fn narrow() {
     let mut random = Random(3);
     let mut case = |bits: u64| {
         let x = f64::from_bits(bits);
-        count.case(library::narrow(x), machine::narrow(x), || format!("{bits:016x}"));
+        count.case(library::narrow(x), machine::narrow(x), || {
+            format!("{bits:016x}")
+        });
     };
     for k in 0..1u64 << 28 {
         let n = (k << 4 | random.below(16)) as u32;
-        let (low, high) = (f32::from_bits(n) as f64, f32::from_bits(n.wrapping_add(1)) as f64);
+        let (low, high) = (
+            f32::from_bits(n) as f64,
+            f32::from_bits(n.wrapping_add(1)) as f64,
+        );
         let half = (low + high) / 2.0;
         for bits in [
             low.to_bits(),
@@ -77,8 +95,83 @@ fn narrow() {
     count.print("patterns");
 }
 
+const CALLS: u64 = 40_000_000;
+
+/// Half the calls at any bits, half where the drawing code calls it.
+fn elementary<T: Copy>(
+    name: &'static str,
+    any: impl Fn(&mut Random) -> T,
+    used: impl Fn(&mut Random) -> T,
+    ours: impl Fn(T) -> (f32, f32),
+    theirs: impl Fn(T) -> (f32, f32),
+    operands: impl Fn(T) -> String,
+) {
+    let mut count = Count::new(name);
+    let mut random = Random(4);
+    for k in 0..CALLS {
+        let x = if k % 2 == 0 {
+            any(&mut random)
+        } else {
+            used(&mut random)
+        };
+        let ((a, b), (c, d)) = (ours(x), theirs(x));
+        count.case(a, c, || operands(x));
+        if !same(b, d) {
+            count.differ(b, d, || operands(x));
+        }
+    }
+    count.print("calls");
+}
+
+fn one(x: f32) -> String {
+    format!("{:08x}", x.to_bits())
+}
+
+fn two((x, y): (f32, f32)) -> String {
+    format!("{} {}", one(x), one(y))
+}
+
+fn sin_cos() {
+    elementary(
+        "sin_cos",
+        Random::single,
+        |r| r.within(-8.0, 8.0) as f32,
+        library::sin_cos,
+        ground::sin_cos,
+        one,
+    );
+}
+
+fn tan() {
+    elementary(
+        "tan",
+        Random::single,
+        |r| r.within(-8.0, 8.0) as f32,
+        |t| (library::tan(t), 0.0),
+        |t| (ground::tan(t), 0.0),
+        one,
+    );
+}
+
+fn atan2() {
+    elementary(
+        "atan2",
+        |r| (r.single(), r.single()),
+        |r| (r.within(-2e3, 2e3) as f32, r.within(-2e3, 2e3) as f32),
+        |(y, x)| (library::atan2(y, x), 0.0),
+        |(y, x)| (ground::atan2(y, x), 0.0),
+        two,
+    );
+}
+
 pub fn run(names: &[&str]) {
-    let all: [(&str, fn()); 2] = [("sqrt", sqrt), ("narrow", narrow)];
+    let all: [(&str, fn()); 5] = [
+        ("sqrt", sqrt),
+        ("narrow", narrow),
+        ("sin_cos", sin_cos),
+        ("tan", tan),
+        ("atan2", atan2),
+    ];
     for (name, compare) in all {
         if names.is_empty() || names.contains(&name) {
             compare();

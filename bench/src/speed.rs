@@ -1,17 +1,32 @@
 //! ns per call of the library's functions, of the oracle's written-out ones and of the platform's,
-//! measured in turns in one run, the least of many rounds each.
+//! measured in turns in one run, the least of many rounds each. A chain is a run of calls each of
+//! which waits for the one before, as in a solver; otherwise the calls may overlap.
 
 use std::hint::black_box;
 use std::time::Instant;
 
 use oracle::random::Random;
-use crate::{library, machine};
+
+use crate::library;
+use crate::others::{machine, platform, written};
 
 const INPUTS: usize = 4096;
-const ROUNDS: usize = 60;
+const ROUNDS: usize = 200;
 
-/// One round over all inputs: ns per call.
-fn round<T: Copy>(inputs: &[T], mut call: impl FnMut(T) -> u64) -> f64 {
+/// One round over all inputs: ns per call. `tie` keeps nothing of its second operand, which the
+/// compiler cannot know.
+fn round<T: Copy>(inputs: &[T], call: impl Fn(T) -> u64, tie: impl Fn(T, u64) -> T) -> f64 {
+    let mut last = 0u64;
+    let start = Instant::now();
+    for x in inputs {
+        last = call(tie(*x, last));
+    }
+    let time = start.elapsed();
+    black_box(last);
+    time.as_nanos() as f64 / inputs.len() as f64
+}
+
+fn overlapping<T: Copy>(inputs: &[T], call: impl Fn(T) -> u64) -> f64 {
     let mut sum = 0u64;
     let start = Instant::now();
     for x in inputs {
@@ -22,47 +37,75 @@ fn round<T: Copy>(inputs: &[T], mut call: impl FnMut(T) -> u64) -> f64 {
     time.as_nanos() as f64 / inputs.len() as f64
 }
 
-/// The least of the rounds of each, taken in turns.
+fn print(name: &str, how: &str, labels: &[&str], least: &[f64]) {
+    print!("{name:<8} {how:<8}");
+    for (label, ns) in labels.iter().zip(least) {
+        print!("  {label} {ns:6.2}");
+    }
+    for (label, ns) in labels.iter().zip(least).skip(1) {
+        print!("  /{label} {:.2}", least[0] / ns);
+    }
+    println!();
+}
+
+/// The least of the rounds of each function, taken in turns.
 macro_rules! compare {
-    ($name:literal, $inputs:expr, $($label:literal => $call:expr),+ $(,)?) => {{
-        let inputs = $inputs;
-        let labels = [$($label),+];
-        let mut least = [f64::INFINITY; 8];
-        for _ in 0..ROUNDS {
-            let mut k = 0;
-            $(
-                least[k] = least[k].min(round(&inputs, $call));
-                k += 1;
-            )+
-            let _ = k;
+    ($names:expr, $name:literal, $inputs:expr, $tie:expr, $($label:literal => $call:expr),+ $(,)?) => {{
+        if $names.is_empty() || $names.contains(&$name) {
+            let inputs = $inputs;
+            let labels = [$($label),+];
+            let mut calls = [f64::INFINITY; 3];
+            let mut chain = [f64::INFINITY; 3];
+            for _ in 0..ROUNDS {
+                let mut k = 0;
+                $(
+                    calls[k] = calls[k].min(overlapping(&inputs, $call));
+                    chain[k] = chain[k].min(round(&inputs, $call, $tie));
+                    k += 1;
+                )+
+                let _ = k;
+            }
+            print($name, "calls", &labels, &calls);
+            print($name, "chain", &labels, &chain);
         }
-        print!("{:<8}", $name);
-        for (label, ns) in labels.iter().zip(least) {
-            print!("  {label} {ns:6.2} ns");
-        }
-        for (label, ns) in labels.iter().zip(least).skip(1) {
-            print!("  ratio to {label} {:.2}", least[0] / ns);
-        }
-        println!();
     }};
 }
 
-fn singles(make: impl Fn(&mut Random) -> f64) -> Vec<f32> {
+fn inputs<T>(make: impl Fn(&mut Random) -> T) -> Vec<T> {
     let mut random = Random(1);
-    (0..INPUTS).map(|_| make(&mut random) as f32).collect()
+    (0..INPUTS).map(|_| make(&mut random)).collect()
 }
 
 fn bits(x: f32) -> u64 {
     x.to_bits() as u64
 }
 
-pub fn run() {
-    let mut random = Random(2);
-    let doubles: Vec<f64> = (0..INPUTS).map(|_| random.within(-2000.0, 2000.0)).collect();
-    compare!("narrow", doubles.clone(),
+fn both(p: (f32, f32)) -> u64 {
+    bits(p.0) ^ bits(p.1)
+}
+
+pub fn run(names: &[&str]) {
+    let none = black_box(0u64);
+    let tie = |x: f32, last: u64| f32::from_bits(x.to_bits() ^ (last & none) as u32);
+    let tie_wide = |x: f64, last: u64| f64::from_bits(x.to_bits() ^ (last & none));
+    let tie_pair = |(a, b): (f32, f32), last: u64| (tie(a, last), b);
+    println!("ns per call, and the library's time as a multiple of each other's");
+    compare!(names, "narrow", inputs(|r| r.within(-2000.0, 2000.0)), tie_wide,
         "library" => |x| bits(library::narrow(x)),
         "machine" => |x| bits(machine::narrow(x)));
-    compare!("sqrt", singles(|r| r.within(0.0, 4e6)),
+    compare!(names, "sqrt", inputs(|r| r.within(0.0, 4e6) as f32), tie,
         "library" => |x| bits(library::sqrt(x)),
         "machine" => |x| bits(machine::sqrt(x)));
+    compare!(names, "sin_cos", inputs(|r| r.within(-8.0, 8.0) as f32), tie,
+        "library" => |x| both(library::sin_cos(x)),
+        "oracle" => |x| both(written::sin_cos(x)),
+        "std" => |x| both(platform::sin_cos(x)));
+    compare!(names, "tan", inputs(|r| r.within(-1.0, 1.0) as f32), tie,
+        "library" => |x| bits(library::tan(x)),
+        "oracle" => |x| bits(written::tan(x)),
+        "std" => |x| bits(platform::tan(x)));
+    compare!(names, "atan2", inputs(|r| (r.within(-2e3, 2e3) as f32, r.within(-2e3, 2e3) as f32)), tie_pair,
+        "library" => |(y, x)| bits(library::atan2(y, x)),
+        "oracle" => |(y, x)| bits(written::atan2(y, x)),
+        "std" => |(y, x)| bits(platform::atan2(y, x)));
 }

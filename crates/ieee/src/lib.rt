@@ -1,5 +1,7 @@
 // Operations of IEEE 754 that the language lacks: the changes of width, the square root, and the
 // simple ones that document 01 names. Nothing is cast with loss; every public function is total.
+mod cubic;
+
 ghost use mathlib.Core.Path.{_≡_};
 ghost use Prim.Native.Nat.{ℕ, _+_, _*_, _-_, _^_, _<_, _≤_};
 ghost use lib.Ieee.Nearest.{closest};
@@ -121,39 +123,74 @@ pub fn narrow(x: f64) -> f32
     f32::from_bits(((bits >> 63) * 0x8000_0000 + p) as u32)
 }
 
-// A guess at the root of w, for a w from 2^46 and below 2^48: a cubic polynomial for √u, for u from 1
-// and below 4, which is within 0.11%, mended by one step of Halley's method. No proof rests on its
-// being near: `round_root` tests it, and mends it by steps of 1.
-fn root_guess(w: u64) -> u64
-    requires { ⌜ w < 2 ^ 48 ⌝ }
+// c * t / 2^25, for the cubics.
+fn along(c: u64, t: u64) -> u64
+    requires { ⌜ (c < 2 ^ 32) × (t < 2 ^ 18) ⌝ }
     ensures { λ r. ⌜ r < 2 ^ 25 ⌝ }
 {
-    let u = (w as f64) * 1.4210854715202004e-14;
-    let a = 0.4340380861917304 + 0.6612807954801299 * u;
-    let b = 0.008980239369671109 * u - 0.10323559612058131;
-    let s = a + u * u * b;
-    let q = s * s;
-    let r = s * (q + 3.0 * u) / (3.0 * q + u);
-    let z = r * 8388608.0 + 4503599627370496.0;
-    if z != z {
-        return 0;
-    }
-    f64::to_bits(z) % 0x200_0000
+    (c * t) >> 25
 }
 
-// The root of w to the nearest whole number: it is never half way between two.
-fn round_root(w: u64) -> u64
-    requires { ⌜ (2 ^ 46 ≤ w) × (w < 2 ^ 48) ⌝ }
+// r / 2^8, times the root of 2 unless `odd` is 1: the factor is one of √2 * 2^31 and 2^31.
+fn times_root_of_two(r: u64, odd: u64) -> u64
+    requires { ⌜ (r < 2 ^ 32) × (odd < 2) ⌝ }
+    ensures { λ r. ⌜ r < 2 ^ 25 ⌝ }
+{
+    let factor = 0xb504_f334 - odd * 0x3504_f334;
+    (r * factor + 0x40_0000_0000) >> 39
+}
+
+// A guess at the root of d * 2^24, or of d * 2^23 where `odd` is 1. No proof rests on its being near:
+// `round_root` tests it, and mends it by steps of 1.
+fn root_guess(d: u64, odd: u64) -> u64
+    requires { ⌜ odd < 2 ⌝ }
+    ensures { λ r. ⌜ r < 2 ^ 25 ⌝ }
+{
+    let i = (d >> 18) % 32;
+    let t = d % 0x4_0000;
+    let c = cubic::cubic_at(i);
+    let bend = c.2 - along(c.3, t);
+    let slope = c.1 - along(bend, t);
+    times_root_of_two((c.0 + slope * t) >> 24, odd)
+}
+
+// The first whole number from r on that is no longer too low for the root of w.
+fn raised(w: u64, r: u64) -> u64
+    requires { ⌜ (w < 2 ^ 48) × (r * r + r < w) ⌝ }
     ensures { λ r. ⌜ (r * r < w + r) × (w ≤ r * r + r) ⌝ }
 {
-    let mut r = root_guess(w);
+    let mut r = r;
     while r * r + r < w {
         r += 1;
     }
+    r
+}
+
+// The first whole number from r down that is no longer too high for the root of w.
+fn lowered(w: u64, r: u64) -> u64
+    requires { ⌜ (0 < w) × (w < 2 ^ 48) × (r < 2 ^ 25) × (w + r ≤ r * r) ⌝ }
+    ensures { λ r. ⌜ (r * r < w + r) × (w ≤ r * r + r) ⌝ }
+{
+    let mut r = r;
     while r * r >= w + r {
         r -= 1;
     }
     r
+}
+
+// The root of w to the nearest whole number, from a guess: it is never half way between two.
+fn round_root(w: u64, guess: u64) -> u64
+    requires { ⌜ (0 < w) × (w < 2 ^ 48) × (guess < 2 ^ 25) ⌝ }
+    ensures { λ r. ⌜ (r * r < w + r) × (w ≤ r * r + r) ⌝ }
+{
+    let square = guess * guess;
+    if square + guess < w {
+        return raised(w, guess);
+    }
+    if square >= w + guess {
+        return lowered(w, guess);
+    }
+    guess
 }
 
 // The pattern of the f32 nearest to the root of d * 2^(f - 174).
@@ -161,7 +198,8 @@ fn rooted(d: u64, f: u64) -> u32
     requires { ⌜ (2 ^ 23 ≤ d) × (d < 2 ^ 24) × (f < 300) ⌝ }
     ensures { λ r. ⌜ r ≡ toBits binary32 (rootOf binary32 (d * 2 ^ (f + 124)) (2 ^ 298)) ⌝ }
 {
-    let r = round_root(d << (24 - f % 2));
+    let odd = f % 2;
+    let r = round_root(d << (24 - odd), root_guess(d, odd));
     ((f + 101) / 2 * 0x80_0000 + r) as u32
 }
 

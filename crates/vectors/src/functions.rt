@@ -1,4 +1,5 @@
-// The functions of the float ground under the names that a vector uses.
+// The functions of the float ground under the names that a vector uses, by the number of their
+// operands. A function that does not have the name hands it on to the next.
 use crate::operands;
 use check::same;
 use geometry::Point;
@@ -16,34 +17,68 @@ fn of_point(p: Point) -> Answer {
     Answer::Pair(p.x, p.y)
 }
 
-fn of_double(name: &[u8], line: &[u8]) -> Answer {
-    let Double::Of(x) = text::read_double(text::first_word(line)) else {
-        return Answer::Bad;
-    };
-    let rest = text::after_word(line);
-    if text::first_word(rest).len() > 0 {
-        return Answer::Bad;
-    }
+fn one_double(name: &[u8], x: f64) -> Answer {
     if same(name, b"narrow") {
         return Answer::Single(ieee::narrow(x));
     }
     Answer::Double(ieee::abs_f64(x))
 }
 
-fn of_single(name: &[u8], x: f32) -> Answer {
-    if same(name, b"widen") {
-        return Answer::Double(ieee::widen(x));
+fn elementary_of_one(name: &[u8], x: f32) -> Answer {
+    if same(name, b"tan") {
+        return Answer::Single(trigonometry::tan(x));
     }
-    if same(name, b"sqrt") {
-        return Answer::Single(ieee::sqrt(x));
+    if same(name, b"sin_cos") {
+        let r = trigonometry::sin_cos(x);
+        return Answer::Pair(r.sin, r.cos);
     }
+    Answer::Bad
+}
+
+fn simple_of_one(name: &[u8], x: f32) -> Answer {
     if same(name, b"is_finite") {
         return Answer::Flag(ieee::is_finite(x));
     }
     if same(name, b"abs") {
         return Answer::Single(ieee::abs(x));
     }
+    elementary_of_one(name, x)
+}
+
+fn of_one(name: &[u8], x: f32) -> Answer {
+    if same(name, b"widen") {
+        return Answer::Double(ieee::widen(x));
+    }
+    if same(name, b"sqrt") {
+        return Answer::Single(ieee::sqrt(x));
+    }
+    simple_of_one(name, x)
+}
+
+fn point_measure(name: &[u8], p: Point) -> Answer {
+    if same(name, b"point_length_squared") {
+        return Answer::Single(geometry::length_squared(p));
+    }
+    if same(name, b"point_length") {
+        return Answer::Single(geometry::length(p));
+    }
+    if same(name, b"point_is_finite") {
+        return Answer::Flag(geometry::is_finite(p));
+    }
     Answer::Bad
+}
+
+fn point_alone(name: &[u8], p: Point) -> Answer {
+    if same(name, b"point_neg") {
+        return of_point(geometry::neg(p));
+    }
+    if same(name, b"point_abs") {
+        return of_point(geometry::abs(p));
+    }
+    if same(name, b"point_normalize") {
+        return of_point(geometry::normalize(p));
+    }
+    point_measure(name, p)
 }
 
 fn of_two(name: &[u8], a: f32, b: f32) -> Answer {
@@ -53,29 +88,10 @@ fn of_two(name: &[u8], a: f32, b: f32) -> Answer {
     if same(name, b"max") {
         return Answer::Single(ieee::max(a, b));
     }
-    of_point_alone(name, Point { x: a, y: b })
-}
-
-fn of_point_alone(name: &[u8], p: Point) -> Answer {
-    if same(name, b"point_neg") {
-        return of_point(geometry::neg(p));
+    if same(name, b"atan2") {
+        return Answer::Single(trigonometry::atan2(a, b));
     }
-    if same(name, b"point_abs") {
-        return of_point(geometry::abs(p));
-    }
-    if same(name, b"point_length_squared") {
-        return Answer::Single(geometry::length_squared(p));
-    }
-    if same(name, b"point_length") {
-        return Answer::Single(geometry::length(p));
-    }
-    if same(name, b"point_normalize") {
-        return of_point(geometry::normalize(p));
-    }
-    if same(name, b"point_is_finite") {
-        return Answer::Flag(geometry::is_finite(p));
-    }
-    Answer::Bad
+    point_alone(name, Point { x: a, y: b })
 }
 
 fn of_three(name: &[u8], a: f32, b: f32, c: f32) -> Answer {
@@ -92,6 +108,16 @@ fn of_three(name: &[u8], a: f32, b: f32, c: f32) -> Answer {
     Answer::Bad
 }
 
+fn point_product(name: &[u8], p: Point, q: Point) -> Answer {
+    if same(name, b"point_mul") {
+        return of_point(geometry::mul(p, q));
+    }
+    if same(name, b"point_div") {
+        return of_point(geometry::div(p, q));
+    }
+    Answer::Bad
+}
+
 fn of_points(name: &[u8], p: Point, q: Point) -> Answer {
     if same(name, b"point_add") {
         return of_point(geometry::add(p, q));
@@ -99,31 +125,47 @@ fn of_points(name: &[u8], p: Point, q: Point) -> Answer {
     if same(name, b"point_sub") {
         return of_point(geometry::sub(p, q));
     }
-    if same(name, b"point_mul") {
-        return of_point(geometry::mul(p, q));
-    }
-    if same(name, b"point_div") {
-        return of_point(geometry::div(p, q));
-    }
     if same(name, b"point_distance_squared") {
         return Answer::Single(geometry::distance_squared(p, q));
     }
-    Answer::Bad
+    point_product(name, p, q)
 }
 
-// The answer for a function's name and the rest of its line.
-pub fn answer_to(name: &[u8], line: &[u8]) -> Answer {
-    if same(name, b"narrow") || same(name, b"abs_f64") {
-        return of_double(name, line);
+fn takes_double(name: &[u8]) -> bool {
+    if same(name, b"narrow") {
+        return true;
     }
+    same(name, b"abs_f64")
+}
+
+fn of_double(name: &[u8], line: &[u8]) -> Answer {
+    let rest = text::after_word(line);
+    if text::first_word(rest).len() > 0 {
+        return Answer::Bad;
+    }
+    let Double::Of(x) = text::read_double(text::first_word(line)) else {
+        return Answer::Bad;
+    };
+    one_double(name, x)
+}
+
+fn of_singles(name: &[u8], line: &[u8]) -> Answer {
     let o = operands::read(line);
     let n = o.count;
     let x = o.x;
     match n {
-        1 => of_single(name, x[0]),
+        1 => of_one(name, x[0]),
         2 => of_two(name, x[0], x[1]),
         3 => of_three(name, x[0], x[1], x[2]),
         4 => of_points(name, Point { x: x[0], y: x[1] }, Point { x: x[2], y: x[3] }),
         _ => Answer::Bad,
     }
+}
+
+// The answer for a function's name and the rest of its line.
+pub fn answer_to(name: &[u8], line: &[u8]) -> Answer {
+    if takes_double(name) {
+        return of_double(name, line);
+    }
+    of_singles(name, line)
 }
