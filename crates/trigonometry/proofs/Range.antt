@@ -1,12 +1,12 @@
 -- -8 ≤ t ≤ 8, by the code's two comparisons: t is no NaN, and its magnitude is not over 8. Assumes nothing.
 use mathlib.Core.Path.{_≡_, refl, sym, ap, _∙_}
 use mathlib.Core.Bool.{Bool, true, false, not, _&&_, _||_, true≢false, false≢true}
-use Prim.Native.Nat.{ℕ, _+_, _*_, _<_, _≤_}
+use Prim.Native.Nat.{ℕ, _+_, _*_, _<_}
 use native.Mathlib.Omega.{arith}
 use borrow.Author.Tests.{ltb-true, ltb-false, eqb-true, eqb-false, lt-ltb, eq-eqb}
 use lib.Dec.{ltb, eqb}
 use lib.IntN.{ℤ}
-use lib.Ieee.{Float, nan, inf, fin, binary32, ofBits, neg, lt, le, eq, ne, up, down}
+use lib.Ieee.{Float, nan, inf, fin, binary32, ofBits, neg, lt, le, ne, up, down}
 use lib.Ieee.Fits.{down-pos}
 use Rattle.ieee.specs.Basic.{absOf}
 use Rattle.trigonometry.specs.Constants.{eight}

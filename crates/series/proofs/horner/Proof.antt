@@ -10,8 +10,6 @@ use Rattle.series.specs.Horner.{hornerOf}
 use Rattle.series.proofs.Horners.{horner-last, horner-down}
 use Rattle.series.proofs.horner.Statement.{statement}
 use Rattle.series.proofs.horner.Tie as tie
-use Rattle.series.proofs.horner.Reads as reads
-use Rattle.series.proofs.horner.Lts as lts
 
 abbrev Inv-loop : tie.InvT-loop
 Inv-loop cs z n k₀ h₀ k h = (k < length cs) × (h ≡ hornerOf binary64 (drop k cs) z)

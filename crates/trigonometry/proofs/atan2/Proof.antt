@@ -1,5 +1,3 @@
-use mathlib.Core.Path.{_≡_, sym, _∙_, ap}
-use mathlib.Core.Bool.{not}
 use borrow.Author.Needs.{needs}
 use Rattle.ieee.specs.Basic.{widenOf}
 use Rattle.trigonometry.specs.Arctangent.{atan2Of}

@@ -1,4 +1,3 @@
-use mathlib.Core.Path.{_∙_}
 use Rattle.trigonometry.proofs.Range.{low-end, below-it}
 use Rattle.trigonometry.proofs.in_range.Statement.{statement}
 use Rattle.trigonometry.proofs.in_range.Tie as tie

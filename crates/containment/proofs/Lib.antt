@@ -1,0 +1,3 @@
+-- The square corner's law, and document 01's example of a shape.
+pub mod SquareCorner
+pub mod Examples

@@ -1,0 +1,9 @@
+pub mod Specials
+pub mod Integers
+pub mod Wholes
+pub mod Floors
+pub mod Values
+pub mod Scales
+pub mod Ranges
+pub mod Split
+pub mod Rules

@@ -1,0 +1,4 @@
+pub mod Constants
+pub mod Logarithm
+pub mod Exponential
+pub mod Power

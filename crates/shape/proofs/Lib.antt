@@ -1,0 +1,2 @@
+-- When each refusal is given, and that nothing else is refused.
+pub mod Refusals
