@@ -1,2 +1,3 @@
 pub mod Records
 pub mod Counting
+pub mod Walking

@@ -2,19 +2,21 @@
 use mathlib.Core.Path.{_≡_, refl, sym, ap, _∙_}
 use mathlib.Core.Bool.{Bool, true, false, cond}
 use mathlib.Core.List.{List, [], _∷_}
-use Prim.Native.Nat.{ℕ, zero, suc, _+_, _-_, _≤_, _<_}
+use Prim.Native.Nat.{ℕ, zero, suc, _+_, _-_, _*_, _≤_, _<_}
 use native.Mathlib.Omega.{arith}
 use lib.ListN.{length}
 use lib.Dec.{leb, ltb, eqb}
 use borrow.Author.Tests.{ltb-false, leb-true, leb-false}
 use Rattle.panel_file.specs.Bytes.{u16At}
 use Rattle.panel_file.specs.declared.Kind.{Kind}
+use Rattle.panel_file.specs.declared.Kind.the-variants.{Button as button, Touch as touch}
 use Rattle.panel_file.specs.declared.KindFound.{KindFound}
 use Rattle.panel_file.specs.declared.KindFound.the-variants.{Known, Unknown}
 use Rattle.panel_file.specs.declared.Record.{Record}
+use Rattle.panel_file.specs.declared.Record.the-variants.{Button as ButtonRecord, Touch as TouchRecord}
 use Rattle.panel_file.specs.declared.Head.{Head}
 use Rattle.panel_file.specs.declared.Head.the-variants.{Whole, End, Broken}
-use Rattle.panel_file.specs.Panel.{Answer, done, refused, limit, header, kindOf, payloadOf, wholeOf, headAt, contentAt, Entry, entry, end, entryOf, recordAt, onDone, followed, readings, recordsFrom}
+use Rattle.panel_file.specs.Panel.{Answer, done, refused, limit, header, kindOf, payloadOf, wholeOf, headAt, contentAt, Entry, entry, end, entryOf, recordAt, onDone, followed, readings, recordsFrom, buttonsOf, touchesOf}
 
 -- the offset past a record, and n where there is none
 abbrev past : ℕ → Answer Entry → ℕ
@@ -100,3 +102,86 @@ records-follow file at =
 pub head-follow : (file : List ℕ) (at : ℕ) (head : Head) → headAt file at ≡ head → recordsFrom file at ≡ followed (recordsFrom file) (entryOf file at head)
 unfolding recordAt
 head-follow file at head e = records-follow file at ∙ ap (λ (h : Head). followed (recordsFrom file) (entryOf file at h)) e
+
+-- ---- how many bytes the records take
+
+unfoldable pub bytesOf : Record → ℕ
+bytesOf (ButtonRecord b) = 52
+bytesOf (TouchRecord p) = 12
+
+pub bytes-least : (r : Record) → 12 ≤ bytesOf r
+unfolding bytesOf
+bytes-least (ButtonRecord b) = omega arith
+bytes-least (TouchRecord p) = omega arith
+
+content-bytes : (kind : Kind) (file : List ℕ) (at : ℕ) → header + payloadOf kind ≡ bytesOf (contentAt kind file at)
+unfolding payloadOf contentAt bytesOf
+content-bytes button file at = refl
+content-bytes touch file at = refl
+
+entry-bytes : (file : List ℕ) (at : ℕ) (r : Record) (next : ℕ) (head : Head) → entryOf file at head ≡ done (entry r next) → next ≡ at + bytesOf r
+unfolding entryOf
+entry-bytes file at r next (Whole kind) e =
+    let n : at + header + payloadOf kind ≡ next = ap (past 0) e in
+    let same : contentAt kind file (at + header) ≡ r = cc in
+    let b = content-bytes kind file (at + header) ∙ ap bytesOf same in
+    omega arith
+entry-bytes file at r next End e = let z : _≡_ {A = ℕ} 0 1 = cc in absurd (omega arith)
+entry-bytes file at r next (Broken o) e = let z : _≡_ {A = ℕ} 0 1 = cc in absurd (omega arith)
+
+pub record-bytes : (file : List ℕ) (at : ℕ) (r : Record) (next : ℕ) → recordAt file at ≡ done (entry r next) → next ≡ at + bytesOf r
+unfolding recordAt
+record-bytes file at r next e = entry-bytes file at r next (headAt file at) e
+
+unfoldable pub bytesOfAll : List Record → ℕ
+bytesOfAll rs = 52 * length (buttonsOf rs) + 12 * length (touchesOf rs)
+
+one-more : (r : Record) (rs : List Record) → bytesOfAll (r ∷ rs) ≡ bytesOf r + bytesOfAll rs
+unfolding bytesOf bytesOfAll buttonsOf touchesOf
+one-more (ButtonRecord b) rs = omega arith
+one-more (TouchRecord p) rs = omega arith
+
+behind-fit : (file : List ℕ) (at : ℕ) (r : Record) (next : ℕ) (rs : List Record) (x : Answer (List Record)) → recordAt file at ≡ done (entry r next)
+    → ((ss : List Record) → x ≡ done ss → bytesOfAll ss ≤ length file - next) → onDone (λ ss. r ∷ ss) x ≡ done rs → bytesOfAll rs ≤ length file - at
+unfolding onDone
+behind-fit file at r next rs (done ss) e h q =
+    let same : r ∷ ss ≡ rs = cc in
+    let b = sym (one-more r ss) ∙ ap bytesOfAll same in
+    let l = h ss refl in
+    let n = record-bytes file at r next e in
+    let w = record-within file at r next e in
+    omega arith
+behind-fit file at r next rs (refused n o) e h q = let z : _≡_ {A = ℕ} 0 1 = cc in absurd (omega arith)
+
+none-fit : (n : ℕ) (rs : List Record) → done [] ≡ done rs → bytesOfAll rs ≤ n
+unfolding bytesOfAll buttonsOf touchesOf
+none-fit n rs q = let same : [] ≡ rs = cc in let b : 0 ≡ bytesOfAll rs = ap bytesOfAll same in omega arith
+
+follow-fit : (f : ℕ → Answer (List Record)) (file : List ℕ) (at : ℕ) (rs : List Record) (a : Answer Entry) → recordAt file at ≡ a
+    → ((next : ℕ) (ss : List Record) → f next ≡ done ss → bytesOfAll ss ≤ length file - next) → followed f a ≡ done rs → bytesOfAll rs ≤ length file - at
+unfolding followed
+follow-fit f file at rs (done (entry r next)) e h q = behind-fit file at r next rs (f next) e (h next) q
+follow-fit f file at rs (done end) e h q = none-fit (length file - at) rs q
+follow-fit f file at rs (refused c o) e h q = let z : _≡_ {A = ℕ} 0 1 = cc in absurd (omega arith)
+
+readings-fit : (n : ℕ) (file : List ℕ) (at : ℕ) (rs : List Record) → readings n file at ≡ done rs → bytesOfAll rs ≤ length file - at
+unfolding readings
+readings-fit zero file at rs q = none-fit (length file - at) rs q
+readings-fit (suc n) file at rs q = follow-fit (readings n file) file at rs (recordAt file at) refl (λ next ss. readings-fit n file next ss) q
+
+-- the records from an offset on lie behind it
+pub records-fit : (file : List ℕ) (at : ℕ) (rs : List Record) → recordsFrom file at ≡ done rs → bytesOfAll rs ≤ length file - at
+unfolding recordsFrom
+records-fit file at rs q = readings-fit (suc (length file - at)) file at rs q
+
+-- a good file is not too long
+short-by : (file : List ℕ) (at : ℕ) (rs : List Record) (b : Bool) → ltb limit (length file) ≡ b → recordsFrom file at ≡ done rs → length file ≤ limit
+unfolding headAt entryOf followed
+short-by file at rs true e q =
+    let r : recordsFrom file at ≡ refused 7 0 = head-follow file at (Broken 0) (rw e) in
+    let z : _≡_ {A = ℕ} 0 1 = cc in
+    absurd (omega arith)
+short-by file at rs false e q = ltb-false limit (length file) e
+
+pub good-short : (file : List ℕ) (at : ℕ) (rs : List Record) → recordsFrom file at ≡ done rs → length file ≤ limit
+good-short file at rs q = short-by file at rs (ltb limit (length file)) refl q

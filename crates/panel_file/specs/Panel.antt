@@ -1,6 +1,6 @@
 -- What a panel file is: the list of its records, or cause 7 with the offset of the first record that is cut short, of unknown kind or of a length that is not its kind's. Definitions only.
 use Prim.Native.Nat.{ℕ, zero, suc, _+_, _-_, _≤_}
-use mathlib.Core.Bool.{cond}
+use mathlib.Core.Bool.{Bool, true, false, cond}
 use mathlib.Core.List.{List, [], _∷_}
 use lib.ListN.{length}
 use lib.Dec.{leb, ltb, eqb}
@@ -134,6 +134,15 @@ recordsFrom file at = readings (suc (length file - at)) file at
 -- The records of a file, or cause 7 at its first broken record.
 unfoldable pub recordsOf : List ℕ → Answer (List Record)
 recordsOf file = recordsFrom file 0
+
+-- whether there is a value, and the records of a file that has them
+unfoldable pub isDone : {A : Type 0} → Answer A → Bool
+isDone (done a) = true
+isDone (refused n at) = false
+
+unfoldable pub recordsIn : Answer (List Record) → List Record
+recordsIn (done rs) = rs
+recordsIn (refused n at) = []
 
 -- the buttons and the touches among records, in file order
 unfoldable pub buttonsOf : List Record → List Button

@@ -1,6 +1,6 @@
-use Rattle.builder.proofs.Admission.{admitted-for, refused-is, done-is}
-use Rattle.builder.proofs.Opening.{closing-empty, closing-held}
-use Rattle.builder.specs.Calls.{closing, entriesOf, admitOf, step}
+use Rattle.calls.proofs.Admission.{admitted-for, refused-is, done-is}
+use Rattle.calls.proofs.Opening.{closing-empty, closing-held}
+use Rattle.calls.specs.Calls.{closing, entriesOf, admitOf, step}
 use Rattle.lowering.specs.Entries.{Entry, plain, elementsOf, piecesIn}
 use Rattle.stream.proofs.Push.{push-all-one}
 use Rattle.stream.proofs.Tests.{room-is}

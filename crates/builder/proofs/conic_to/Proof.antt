@@ -1,4 +1,4 @@
-use Rattle.builder.proofs.Opened.{opened-refused, opened-admitted, opened-room, opened-counts, opened-done, no-word, conic-step}
+use Rattle.calls.proofs.Opened.{opened-refused, opened-admitted, opened-room, opened-counts, opened-done, no-word, conic-step}
 use Rattle.lowering.specs.Entries.{loweredOf}
 use Rattle.stream.specs.Stream.{State, state}
 use native.Mathlib.Omega.{arith}

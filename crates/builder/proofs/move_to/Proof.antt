@@ -1,5 +1,5 @@
-use Rattle.builder.proofs.Admission.{admitted, refused-is, done-is}
-use Rattle.builder.specs.Calls.{entriesOf, step}
+use Rattle.calls.proofs.Admission.{admitted, refused-is, done-is}
+use Rattle.calls.specs.Calls.{entriesOf, step}
 use Rattle.lowering.specs.Entries.{plain, elementsOf, piecesIn}
 use Rattle.stream.proofs.Push.{push-all-one}
 use Rattle.stream.proofs.Tests.{room-is}
