@@ -1,30 +1,20 @@
--- The simple operations, by the comparisons that the code makes. Assumes nothing.
+-- The simple operations, by the comparisons that the code makes and by the pattern. Assumes nothing.
 use mathlib.Core.Path.{_≡_, refl, sym, ap, _∙_, subst}
-use mathlib.Core.Bool.{Bool, true, false, not, _&&_, _||_, Bool·beq, cond, true≢false, false≢true}
-use Prim.Native.Nat.{ℕ, zero, suc, _+_, _*_, _^_, _≤_, _<_}
-use native.Mathlib.Nat.{mul-pos, zero-mul, mul-one, zero-lt-suc, pow-succ'}
+use mathlib.Core.Bool.{Bool, true, false, not, _&&_, cond}
+use Prim.Native.Nat.{ℕ, zero, suc, _+_, _*_, _%_, _<_}
+use native.Mathlib.Nat.{zero-add, add-mod-left, mod-eq-of-lt}
 use native.Mathlib.Omega.{arith}
-use lib.Dec.{T, ltb, eqb, ltb→lt, eqb→eq, lt→ltb}
-use lib.IntN.{ℤ, pos, negsuc}
-use lib.Pow.{pow-pos}
-use lib.Ieee.{Float, Format, nan, inf, fin, binary32, binary64, up, down, neg, div, lt, eq, level, fits, ofBits}
-use lib.Ieee.Bits.{is-true}
-use lib.Ieee.Fits.{up-pos, and-l}
+use lib.Dec.{T}
+use lib.IntN.{ℤ}
+use lib.Ieee.{Float, Format, nan, inf, fin, binary32, neg, div, lt, ne, fits, isNan, ofBits, toBits, nanBits, top, hid, ones}
+use lib.Ieee.Bits.{toBits-lt}
+use lib.Ieee.Compare.{differs-from-itself}
+use lib.Ieee.Fits.{inf-fits}
 use lib.Ieee.Scale.{finite}
 use Rattle.ieee.specs.Basic.{absOf}
+use Rattle.ieee.proofs.Units.{bits-inf, no-nan-bits, read-back, self-equal}
 
 -- ---- the constants, as the code makes them
-abbrev pub +0 : Float
-+0 = fin false 0 (pos 0)
-
-pub zero32-is : ofBits binary32 0 ≡ +0
-unfolding ofBits
-zero32-is = refl
-
-pub zero64-is : ofBits binary64 0 ≡ +0
-unfolding ofBits
-zero64-is = refl
-
 pub inf32-is : div binary32 (ofBits binary32 0x3f80_0000) (ofBits binary32 0) ≡ inf false
 unfolding div ofBits
 inf32-is = refl
@@ -41,51 +31,48 @@ finite-is (inf true) = refl
 finite-is (inf false) = refl
 finite-is (fin s m e) = refl
 
--- ---- below zero
-none-below : (a d : ℕ) → ltb a (0 * d) ≡ true → ⊥
-none-below a d e = let h = ltb→lt a (0 * d) (subst T (sym e) tt) in let z = zero-mul d in omega arith
+-- ---- the sign cleared: what is left of the pattern
+sign-off : (s : Bool) (t c : ℕ) → t + c < 2 * t → c ≡ (cond s t 0 + c) % t
+sign-off true t c h = sym (add-mod-left t c ∙ mod-eq-of-lt (omega arith))
+sign-off false t c h = sym (ap (λ (x : ℕ). x % t) (zero-add c) ∙ mod-eq-of-lt (omega arith))
 
-pub abs-below : (x : Float) → lt x +0 ≡ true → neg x ≡ absOf x
-unfolding lt neg absOf
-abs-below nan e = absurd (false≢true e)
-abs-below (inf true) e = refl
-abs-below (inf false) e = absurd (false≢true e)
-abs-below (fin true m d) e = refl
-abs-below (fin false m d) e = absurd (none-below (m * up d * 1) (down d) e)
+either-sign : (f : Format) (s t : Bool) (m : ℕ) (e : ℤ) → T (fits f (fin s m e)) → T (fits f (fin t m e))
+unfolding fits
+either-sign f s t zero e h = h
+either-sign f s t (suc m) e h = h
 
--- ---- a zero: it is written in the one way
-one-way : (e : ℤ) → up e * down e ≡ 1 → e ≡ pos 0
-one-way (pos zero) h = refl
-one-way (pos (suc k)) h = absurd (let p = pow-succ' 2 k in let q = pow-pos k in omega arith)
-one-way (negsuc k) h = absurd (let p = pow-succ' 2 k in let q = pow-pos k in omega arith)
+abs-fits : (f : Format) (x : Float) → T (fits f x) → T (fits f (absOf x))
+unfolding absOf
+abs-fits f nan h = h
+abs-fits f (inf s) h = inf-fits f false
+abs-fits f (fin s m e) h = either-sign f s false m e h
 
-more-than-none : (m u d : ℕ) → 0 < u → suc m * u * 1 ≡ 0 * d → ⊥
-more-than-none m u d p e = let a = mul-pos (zero-lt-suc m) p in let z = zero-mul d in let o = mul-one (suc m * u) in omega arith
+-- the pattern of a number, the sign set apart
+number-bits : (f : Format) (s : Bool) (m : ℕ) (e : ℤ) → toBits f (fin s m e) ≡ cond s (top f) 0 + toBits f (fin false m e)
+unfolding toBits
+number-bits f s m e = omega arith
 
-pub abs-zero : (f : Format) (x : Float) → T (fits f x) → eq x +0 ≡ true → +0 ≡ absOf x
-unfolding eq absOf fits
-abs-zero f nan h e = absurd (false≢true e)
-abs-zero f (inf s) h e = absurd (false≢true e)
-abs-zero f (fin s zero d) h e = ap (λ (z : ℤ). fin false 0 z) (sym (one-way d (eqb→eq (up d * down d) 1 h)))
-abs-zero f (fin s (suc m) d) h e =
-    let a = suc m * up d * 1 in
-    absurd (more-than-none m (up d) (down d) (up-pos d) (eqb→eq a (0 * 1 * down d) (and-l (eqb a (0 * 1 * down d)) (Bool·beq s false || eqb a 0) (subst T (sym e) tt))))
+abs-bits : (f : Format) (x : Float) → T (fits f x) → T (not (isNan x)) → toBits f (absOf x) ≡ toBits f x % top f
+unfolding absOf isNan
+abs-bits f nan h n = absurd n
+abs-bits f (inf s) h n = bits-inf f false ∙ zero-add (ones f * hid f) ∙ sign-off s (top f) (ones f * hid f) (subst (λ (b : ℕ). b < 2 * top f) (bits-inf f true) (toBits-lt f (inf true) (inf-fits f true))) ∙ ap (λ (b : ℕ). b % top f) (sym (bits-inf f s))
+abs-bits f (fin s m e) h n =
+    sign-off s (top f) (toBits f (fin false m e)) (subst (λ (b : ℕ). b < 2 * top f) (number-bits f true m e) (toBits-lt f (fin true m e) (either-sign f s true m e h)))
+    ∙ ap (λ (b : ℕ). b % top f) (sym (number-bits f s m e))
 
--- ---- neither
-zeros-level : (u d : ℕ) → level true (0 * u * 1) false (0 * 1 * d) ≡ true
-zeros-level u d = rw (zero-mul u, zero-mul d)
+abs-no-nan : (x : Float) → T (not (isNan x)) → T (not (isNan (absOf x)))
+unfolding absOf isNan
+abs-no-nan nan n = n
+abs-no-nan (inf s) n = tt
+abs-no-nan (fin s m e) n = tt
 
-some-below : (m u r : ℕ) → 0 < u → ltb 0 (suc m * u * 1 + r) ≡ true
-some-below m u r p =
-    let a = mul-pos (zero-lt-suc m) p in
-    let o = mul-one (suc m * u) in
-    is-true (ltb 0 (suc m * u * 1 + r)) (lt→ltb 0 (suc m * u * 1 + r) (omega arith))
+-- what the function needs at either format
+module _ (f : Format) (x : Float) (h : T (fits f x)) (e : ne x x ≡ false) where
+  pub abs-pattern : T (not (nanBits f (toBits f x % top f)))
+  abs-pattern = no-nan-bits f (absOf x) (toBits f x % top f) (abs-fits f x h) (abs-no-nan x (self-equal x e)) (abs-bits f x h (self-equal x e))
 
-pub abs-above : (x : Float) → lt x +0 ≡ false → eq x +0 ≡ false → x ≡ absOf x
-unfolding lt eq absOf
-abs-above nan a b = refl
-abs-above (inf true) a b = absurd (true≢false a)
-abs-above (inf false) a b = refl
-abs-above (fin false m d) a b = refl
-abs-above (fin true zero d) a b = absurd (true≢false (sym (zeros-level (up d) (down d)) ∙ b))
-abs-above (fin true (suc m) d) a b = absurd (true≢false (sym (some-below m (up d) (0 * 1 * down d) (up-pos d)) ∙ a))
+  pub abs-is : ofBits f (toBits f x % top f) ≡ absOf x
+  abs-is = read-back f (absOf x) (toBits f x % top f) (abs-fits f x h) (abs-bits f x h (self-equal x e))
+
+pub abs-nan : (x : Float) → ne x x ≡ true → x ≡ absOf x
+abs-nan x e = let n = differs-from-itself x (subst T (sym e) tt) in n ∙ sym (ap absOf n ∙ unfold absOf in refl)

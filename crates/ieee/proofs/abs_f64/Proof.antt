@@ -1,23 +1,25 @@
-use mathlib.Core.Path.{_∙_, sym, subst}
+use mathlib.Core.Path.{sym, subst}
 use lib.Dec.{T}
-use lib.Ieee.{binary64}
-use Rattle.ieee.proofs.Simple.{zero64-is, abs-below, abs-zero, abs-above}
+use lib.Ieee.{binary64, fits}
+use Rattle.ieee.proofs.Units.{self-equal}
+use Rattle.ieee.proofs.Simple.{abs-nan, abs-is, abs-pattern}
 use Rattle.ieee.proofs.abs_f64.Statement.{statement}
 use Rattle.ieee.proofs.abs_f64.Tie as tie
-use Rattle.ieee.proofs.abs_f64.Reads as reads
-use Rattle.ieee.proofs.abs_f64.Lts as lts
 
--- src/lib.rt:41:9
+held : (s : tie.Start) → T (fits binary64 (s .args .x))
+held s = subst T (sym (s .good .0 .1)) tt
+
 returns : tie.Need-returns
-returns c = abs-below (c .before .args .x) (rw zero64-is at (c .if1 .taken))
+returns c = abs-nan (c .before .args .x) (c .if1 .taken)
 
--- src/lib.rt:44:9
 returns-2 : tie.Need-returns-2
-returns-2 c = zero64-is ∙ abs-zero binary64 (c .before .before .args .x) (subst T (sym (c .before .before .good .0 .1)) tt) (rw zero64-is at (c .if2 .taken))
-
--- src/lib.rt:37:1
-returns-3 : tie.Need-returns-3
-returns-3 c = abs-above (c .before .before .args .x) (rw zero64-is at (c .before .if1 .left)) (rw zero64-is at (c .if2 .left))
+returns-2 c = abs-is binary64 (c .before .args .x) (held (c .before)) (c .if1 .left)
 
 pub abs-f64-spec : {M : Type 1} → statement M
-abs-f64-spec = tie.close (tie.spec returns returns-2 returns-3)
+abs-f64-spec =
+    tie.close
+    (tie.spec
+    returns
+    (λ c. self-equal (c .before .args .x) (c .if1 .left))
+    (λ c. abs-pattern binary64 (c .before .args .x) (held (c .before)) (c .if1 .left))
+    returns-2)
