@@ -1,15 +1,15 @@
 -- The simple operations, by the comparisons that the code makes. Assumes nothing.
 use mathlib.Core.Path.{_≡_, refl, sym, ap, _∙_, subst}
-use mathlib.Core.Bool.{Bool, true, false, not, _&&_, _||_, Bool·beq, cond, true≢false, false≢true}
-use Prim.Native.Nat.{ℕ, zero, suc, _+_, _*_, _^_, _≤_, _<_}
-use native.Mathlib.Nat.{mul-pos, zero-mul, mul-one, zero-lt-suc, pow-succ'}
+use mathlib.Core.Bool.{Bool, true, false, not, _&&_, cond}
+use Prim.Native.Nat.{ℕ, zero, suc, _+_, _-_, _*_, _/_, _%_, _^_, _≤_, _<_}
+use native.Mathlib.Nat.{mul-pos, zero-lt-suc, mod-lt, mod-mod, mod-mod-of-dvd, dvd-mul-right}
 use native.Mathlib.Omega.{arith}
-use lib.Dec.{T, ltb, eqb, ltb→lt, eqb→eq, lt→ltb}
+use borrow.Author.Tests.{lt-leb}
+use lib.Dec.{T, eqb, leb}
 use lib.IntN.{ℤ, pos, negsuc}
 use lib.Pow.{pow-pos}
-use lib.Ieee.{Float, Format, nan, inf, fin, binary32, binary64, up, down, neg, div, lt, eq, level, fits, ofBits}
-use lib.Ieee.Bits.{is-true}
-use lib.Ieee.Fits.{up-pos, and-l}
+use lib.Ieee.{Float, Format, nan, inf, fin, binary32, binary64, prec, low, hid, ones, top, odd, neg, div, lt, fits, isNan, nanBits, ofFields, ofBits, toBits}
+use lib.Ieee.Bits.{ofBits-toBits, nanBits-is}
 use lib.Ieee.Scale.{finite}
 use Rattle.ieee.specs.Basic.{absOf}
 
@@ -41,51 +41,50 @@ finite-is (inf true) = refl
 finite-is (inf false) = refl
 finite-is (fin s m e) = refl
 
--- ---- below zero
-none-below : (a d : ℕ) → ltb a (0 * d) ≡ true → ⊥
-none-below a d e = let h = ltb→lt a (0 * d) (subst T (sym e) tt) in let z = zero-mul d in omega arith
+-- ---- the magnitude, by the pattern
+odd-abs : (d : ℕ) (s : Bool) (q k l : ℕ) → absOf (odd d s q k l) ≡ odd d false q k l
+unfolding odd absOf
+odd-abs d s zero k l = refl
+odd-abs d s (suc q) k l = refl
 
-pub abs-below : (x : Float) → lt x +0 ≡ true → neg x ≡ absOf x
-unfolding lt neg absOf
-abs-below nan e = absurd (false≢true e)
-abs-below (inf true) e = refl
-abs-below (inf false) e = absurd (false≢true e)
-abs-below (fin true m d) e = refl
-abs-below (fin false m d) e = absurd (none-below (m * up d * 1) (down d) e)
+field-abs : (b c : Bool) (s : Bool) (v w : Float) → absOf v ≡ w → absOf (cond b (cond c (inf s) nan) v) ≡ cond b (cond c (inf false) nan) w
+unfolding absOf
+field-abs true true s v w e = refl
+field-abs true false s v w e = refl
+field-abs false c s v w e = e
 
--- ---- a zero: it is written in the one way
-one-way : (e : ℤ) → up e * down e ≡ 1 → e ≡ pos 0
-one-way (pos zero) h = refl
-one-way (pos (suc k)) h = absurd (let p = pow-succ' 2 k in let q = pow-pos k in omega arith)
-one-way (negsuc k) h = absurd (let p = pow-succ' 2 k in let q = pow-pos k in omega arith)
+fields-abs : (f : Format) (s : Bool) (x t : ℕ) → absOf (ofFields f s x t) ≡ ofFields f false x t
+unfolding ofFields
+fields-abs f s zero t = odd-abs (prec f) s t 0 (low f)
+fields-abs f s (suc x) t =
+    field-abs (eqb (suc x) (ones f)) (eqb t 0) s (odd (prec f) s (hid f + t) x (low f)) (odd (prec f) false (hid f + t) x (low f)) (odd-abs (prec f) s (hid f + t) x (low f))
 
-more-than-none : (m u d : ℕ) → 0 < u → suc m * u * 1 ≡ 0 * d → ⊥
-more-than-none m u d p e = let a = mul-pos (zero-lt-suc m) p in let z = zero-mul d in let o = mul-one (suc m * u) in omega arith
+top-pos : (f : Format) → 0 < top f
+top-pos f = mul-pos (pow-pos (prec f - 1)) (zero-lt-suc (ones f))
 
-pub abs-zero : (f : Format) (x : Float) → T (fits f x) → eq x +0 ≡ true → +0 ≡ absOf x
-unfolding eq absOf fits
-abs-zero f nan h e = absurd (false≢true e)
-abs-zero f (inf s) h e = absurd (false≢true e)
-abs-zero f (fin s zero d) h e = ap (λ (z : ℤ). fin false 0 z) (sym (one-way d (eqb→eq (up d * down d) 1 h)))
-abs-zero f (fin s (suc m) d) h e =
-    let a = suc m * up d * 1 in
-    absurd (more-than-none m (up d) (down d) (up-pos d) (eqb→eq a (0 * 1 * down d) (and-l (eqb a (0 * 1 * down d)) (Bool·beq s false || eqb a 0) (subst T (sym e) tt))))
+-- a pattern without its sign's digit is that of the magnitude
+abs-pattern : (f : Format) (b : ℕ) → ofBits f (b % top f) ≡ absOf (ofBits f b)
+unfolding ofBits
+abs-pattern f b =
+    let lo : leb (top f) (b % top f) ≡ false = lt-leb (top f) (b % top f) (mod-lt b (top-pos f)) in
+    let same : b % top f % top f ≡ b % top f = mod-mod b (top f) in
+    let low-digits : b % top f % hid f ≡ b % hid f = mod-mod-of-dvd (hid f) b (dvd-mul-right (hid f) (suc (ones f))) in
+    rw (lo, same, low-digits) (sym (fields-abs f (leb (top f) b) (b % top f / hid f) (b % hid f)))
 
--- ---- neither
-zeros-level : (u d : ℕ) → level true (0 * u * 1) false (0 * 1 * d) ≡ true
-zeros-level u d = rw (zero-mul u, zero-mul d)
+abs-number : (x : Float) → T (not (isNan x)) → T (not (isNan (absOf x)))
+unfolding isNan absOf
+abs-number nan n = absurd n
+abs-number (inf s) n = tt
+abs-number (fin s m e) n = tt
 
-some-below : (m u r : ℕ) → 0 < u → ltb 0 (suc m * u * 1 + r) ≡ true
-some-below m u r p =
-    let a = mul-pos (zero-lt-suc m) p in
-    let o = mul-one (suc m * u) in
-    is-true (ltb 0 (suc m * u * 1 + r)) (lt→ltb 0 (suc m * u * 1 + r) (omega arith))
+-- what the code makes of a number's pattern
+module _ (f : Format) (x : Float) (h : T (fits f x)) where
+  pub abs-made : ofBits f (toBits f x % top f) ≡ absOf x
+  abs-made = abs-pattern f (toBits f x) ∙ ap absOf (ofBits-toBits f x h)
 
-pub abs-above : (x : Float) → lt x +0 ≡ false → eq x +0 ≡ false → x ≡ absOf x
-unfolding lt eq absOf
-abs-above nan a b = refl
-abs-above (inf true) a b = absurd (true≢false a)
-abs-above (inf false) a b = refl
-abs-above (fin false m d) a b = refl
-abs-above (fin true zero d) a b = absurd (true≢false (sym (zeros-level (up d) (down d)) ∙ b))
-abs-above (fin true (suc m) d) a b = absurd (true≢false (sym (some-below m (up d) (0 * 1 * down d) (up-pos d)) ∙ a))
+  pub abs-made-number : T (not (isNan x)) → T (not (nanBits f (toBits f x % top f)))
+  abs-made-number n = subst (λ (b : Bool). T (not b)) (sym (nanBits-is f (toBits f x % top f) ∙ ap isNan abs-made)) (abs-number x n)
+
+pub abs-nan : absOf nan ≡ nan
+unfolding absOf
+abs-nan = refl

@@ -24,28 +24,23 @@ pub fn is_finite(x: f32) -> bool
     -1.0 / 0.0 < x && x < 1.0 / 0.0
 }
 
+// The sign's digit taken off the pattern.
 pub fn abs(x: f32) -> f32
     ensures { λ r. ⌜ r ≡ absOf x ⌝ }
 {
-    if x < 0.0 {
-        return -x;
+    if x != x {
+        return x;
     }
-    if x == 0.0 {
-        return 0.0f32;
-    }
-    x
+    f32::from_bits(f32::to_bits(x) % 0x8000_0000)
 }
 
 pub fn abs_f64(x: f64) -> f64
     ensures { λ r. ⌜ r ≡ absOf x ⌝ }
 {
-    if x < 0.0 {
-        return -x;
+    if x != x {
+        return x;
     }
-    if x == 0.0 {
-        return 0.0f64;
-    }
-    x
+    f64::from_bits(f64::to_bits(x) % 0x8000_0000_0000_0000)
 }
 
 pub fn min(a: f32, b: f32) -> f32
