@@ -1,0 +1,3 @@
+pub mod Marking
+pub mod Gathering
+pub mod Answering

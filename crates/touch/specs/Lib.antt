@@ -1,0 +1,2 @@
+pub mod Touch
+pub mod Search
