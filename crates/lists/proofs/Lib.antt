@@ -2,3 +2,4 @@
 pub mod Simulated
 pub mod Kept
 pub mod Every
+pub mod After

@@ -15,6 +15,7 @@ use Rattle.stream.specs.declared.Element.{Element}
 use Rattle.stream.specs.declared.Element.the-variants.{Move, Line, Quad, Cubic, Close}
 use Rattle.stream.specs.Stream.{put, verbOf, pointsOf, floatsOf, sizeOf, sizesOf, pointCount, badRecord, advanceOf, State, state, push, pushAll, badState, Fits}
 use Rattle.stream.proofs.Put.{length-put, take-grown}
+use Rattle.stream.proofs.Past.{length-floats}
 use Rattle.stream.proofs.Push.{count-verb, sizes-cons, sizes-one, sizes-append}
 use Rattle.reader.specs.declared.Cursor.{Cursor}
 use Rattle.reader.specs.Reading.{Answer, ok, refused, Item, item, end, cursor, pointAt, elementAt, readAt, prepend, follow, readFrom, readAll, Reads, ends, more}
@@ -22,20 +23,20 @@ use Rattle.reader.proofs.Reader.{byteAt, read-past, read-found, read-fr
 
 -- ---- the bytes and the floats of a list of elements
 
-pub bytesOf : List Element → List ℕ
+unfoldable pub bytesOf : List Element → List ℕ
 bytesOf [] = []
 bytesOf (k ∷ ks) = verbOf k ∷ bytesOf ks
 
-pub allFloats : List Element → List Float
+unfoldable pub allFloats : List Element → List Float
 allFloats [] = []
 allFloats (k ∷ ks) = floatsOf k ++ allFloats ks
 
-bytes-append : (ks js : List Element) → bytesOf (ks ++ js) ≡ bytesOf ks ++ bytesOf js
+pub bytes-append : (ks js : List Element) → bytesOf (ks ++ js) ≡ bytesOf ks ++ bytesOf js
 unfolding bytesOf
 bytes-append [] js = refl
 bytes-append (k ∷ ks) js = ap (λ (r : List ℕ). verbOf k ∷ r) (bytes-append ks js)
 
-floats-append : (ks js : List Element) → allFloats (ks ++ js) ≡ allFloats ks ++ allFloats js
+pub floats-append : (ks js : List Element) → allFloats (ks ++ js) ≡ allFloats ks ++ allFloats js
 unfolding allFloats
 floats-append [] js = refl
 floats-append (k ∷ ks) js = ap (λ (r : List Float). floatsOf k ++ r) (floats-append ks js) ∙ sym (append-assoc (floatsOf k) (allFloats ks) (allFloats js))
@@ -45,23 +46,16 @@ unfolding bytesOf
 length-bytes [] = refl
 length-bytes (k ∷ ks) = ap suc (length-bytes ks)
 
-length-floats : (k : Element) → length (floatsOf k) ≡ 2 * sizeOf k
-length-floats (Move p) = refl
-length-floats (Line p) = refl
-length-floats (Quad p q) = refl
-length-floats (Cubic p q r) = refl
-length-floats Close = refl
-
 length-all : (ks : List Element) → length (allFloats ks) ≡ 2 * sizesOf ks
 unfolding allFloats sizesOf
 length-all [] = refl
 length-all (k ∷ ks) = length-append (floatsOf k) (allFloats ks) ∙ omega (arith, length-floats k, length-all ks)
 
-bytes-one : (k : Element) → bytesOf (k ∷ []) ≡ verbOf k ∷ []
+pub bytes-one : (k : Element) → bytesOf (k ∷ []) ≡ verbOf k ∷ []
 unfolding bytesOf
 bytes-one k = refl
 
-floats-one : (k : Element) → allFloats (k ∷ []) ≡ floatsOf k
+pub floats-one : (k : Element) → allFloats (k ∷ []) ≡ floatsOf k
 unfolding allFloats
 floats-one k = append-nil (floatsOf k)
 

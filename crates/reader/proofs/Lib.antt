@@ -3,4 +3,5 @@ pub mod Reader
 pub mod Folds
 pub mod Parts
 pub mod Holding
+pub mod Held
 mod Refusals

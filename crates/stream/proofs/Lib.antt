@@ -2,3 +2,4 @@
 pub mod Put
 pub mod Tests
 pub mod Push
+pub mod Past
