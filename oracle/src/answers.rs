@@ -2,10 +2,7 @@
 
 use oracle::ground;
 use oracle::vec2::Vec2;
-use oracle::written::superellipse::access;
 
-use crate::shapes::Shape;
-use crate::stream;
 use crate::words::{f32_word, f64_word, parse_f32, parse_f64, words};
 
 /// How a function takes its operands and what it gives.
@@ -24,14 +21,13 @@ pub enum Function {
     PointByNumber(fn(Vec2, f32) -> Vec2),
     PointDistance(fn(Vec2, Vec2) -> f32),
     PointBinary(fn(Vec2, Vec2) -> Vec2),
-    ShapeFields,
 }
 
 use Function::*;
 
 /// The functions of the float ground under the names that the vectors use. The machine's own
 /// instructions answer for `widen`, `narrow` and `sqrt`: IEEE 754 decides those.
-pub const FUNCTIONS: [(&str, Function); 27] = [
+pub const FUNCTIONS: [(&str, Function); 26] = [
     ("widen", Widening(|x| x as f64)),
     ("narrow", Narrowing(|x| x as f32)),
     ("sqrt", Single(f32::sqrt)),
@@ -61,7 +57,6 @@ pub const FUNCTIONS: [(&str, Function); 27] = [
     ("sin_cos", Pair(ground::sin_cos)),
     ("tan", Single(ground::tan)),
     ("atan2", Binary(ground::atan2)),
-    ("shape", ShapeFields),
 ];
 
 fn singles<const N: usize>(operands: &[&[u8]]) -> Option<[f32; N]> {
@@ -88,13 +83,6 @@ fn flag(b: bool) -> String {
 
 fn point_words(p: Vec2) -> String {
     format!("{} {}", f32_word(p.x), f32_word(p.y))
-}
-
-/// Every field of every octant and quadrant, and whether one quadrant stands for all.
-fn shape_words(f: &Shape) -> Result<String, String> {
-    let (quadrants, same) = access::shape_floats(&stream::shape(f)?);
-    let floats: Vec<String> = quadrants.iter().flatten().map(|x| f32_word(*x)).collect();
-    Ok(format!("{} {}", floats.join(" "), flag(same)))
 }
 
 fn answer_of(function: &Function, operands: &[&[u8]]) -> Option<String> {
@@ -150,7 +138,6 @@ fn answer_of(function: &Function, operands: &[&[u8]]) -> Option<String> {
             let [x, y, z, w] = singles(operands)?;
             point_words(f(Vec2::new(x, y), Vec2::new(z, w)))
         }
-        ShapeFields => shape_words(&singles(operands)?).unwrap_or_else(|refusal| refusal),
     })
 }
 

@@ -1,5 +1,7 @@
 //! usage: oracle vectors            the vectors of the float ground
 //!        oracle answers            an answer for each vector on standard input
+//!        oracle shapes             shapes, twelve floats a line
+//!        oracle shape-fields       every field of each shape on standard input
 //!        oracle replay-lists       calls, streams and points for the program `replay`
 //!        oracle outline-lists      the same for outlines
 //!        oracle replay             the answers to such a text on standard input
@@ -21,9 +23,9 @@ fn print_lines(out: &mut impl Write, lines: Vec<String>) -> io::Result<()> {
     Ok(())
 }
 
-fn print_answers(out: &mut impl Write) -> io::Result<()> {
+fn print_answers(out: &mut impl Write, answer: fn(&[u8]) -> Option<String>) -> io::Result<()> {
     for line in io::stdin().lock().split(b'\n') {
-        if let Some(text) = answers::answer(&line?) {
+        if let Some(text) = answer(&line?) {
             writeln!(out, "{text}")?;
         }
     }
@@ -48,12 +50,14 @@ fn main() -> io::Result<()> {
     let words: Vec<String> = std::env::args().skip(1).collect();
     match words.iter().map(String::as_str).collect::<Vec<_>>()[..] {
         ["vectors"] => print_lines(&mut out, vectors::vectors()),
-        ["answers"] => print_answers(&mut out),
+        ["answers"] => print_answers(&mut out, answers::answer),
+        ["shapes"] => print_lines(&mut out, shapes::lines()),
+        ["shape-fields"] => print_answers(&mut out, shapes::answer),
         ["replay-lists"] => print_lines(&mut out, replay_lists::lists()),
         ["outline-lists"] => print_lines(&mut out, replay_lists::outlines()),
         ["replay"] => print_replay(&mut out),
         _ => {
-            eprintln!("usage: oracle vectors | answers | replay-lists | outline-lists | replay");
+            eprintln!("usage: oracle vectors | answers | shapes | shape-fields | replay-lists | outline-lists | replay");
             std::process::exit(2);
         }
     }?;

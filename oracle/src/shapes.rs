@@ -6,6 +6,7 @@ use oracle::vec2::Vec2;
 use oracle::written::superellipse::{access, RoundSuperellipse};
 
 use crate::stream;
+use crate::words::{f32_word, parse_f32, words};
 
 /// min, max, radii top left, top right, bottom left, bottom right
 pub type Shape = [f32; 12];
@@ -396,4 +397,33 @@ pub fn points(f: &Shape, random: &mut Random) -> Vec<Vec2> {
     let mut pick = || odd[random.below(6) as usize];
     list.push(Vec2::new(pick(), pick()));
     list
+}
+
+/// A line for each shape: its twelve floats.
+pub fn lines() -> Vec<String> {
+    let all = shapes().into_iter().chain(refused_shapes());
+    all.map(|f| f.map(f32_word).join(" ")).collect()
+}
+
+/// Every field of every quadrant and octant, and whether one quadrant stands for all.
+fn fields(f: &Shape) -> Result<String, stream::Refusal> {
+    let (quadrants, same) = access::shape_floats(&stream::shape(f)?);
+    let floats: Vec<String> = quadrants.iter().flatten().map(|x| f32_word(*x)).collect();
+    Ok(format!("{} {}", floats.join(" "), same as u8))
+}
+
+/// What is printed for a line: nothing where it has no word, `bad` where it is no shape.
+pub fn answer(line: &[u8]) -> Option<String> {
+    let bad = || Some("bad".to_string());
+    let Some(words) = words(line) else {
+        return bad();
+    };
+    if words.is_empty() {
+        return None;
+    }
+    let floats: Option<Vec<f32>> = words.iter().map(|w| parse_f32(w)).collect();
+    match floats.and_then(|f| f.try_into().ok()) {
+        Some(f) => Some(fields(&f).unwrap_or_else(|refusal| refusal)),
+        None => bad(),
+    }
 }

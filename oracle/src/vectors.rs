@@ -1,7 +1,6 @@
 //! The vectors of the float ground: the same list at every run.
 
 use crate::answers::{Function, Function::*, FUNCTIONS};
-use crate::shapes;
 use crate::words::{f32_word, f64_word};
 use oracle::ground::{exp, ln};
 use oracle::random::Random;
@@ -104,7 +103,6 @@ fn operands(function: &Function) -> Option<usize> {
         Binary(_) | PointTest(_) | PointMeasure(_) | PointUnary(_) => Some(2),
         Ternary(_) | PointByNumber(_) => Some(3),
         PointDistance(_) | PointBinary(_) => Some(4),
-        ShapeFields => Some(12),
     }
 }
 
@@ -149,11 +147,6 @@ fn specials(list: &mut List, name: &str, function: &Function) {
         PointDistance(_) | PointBinary(_) => {
             for (i, j) in pairs.filter(|(i, _)| i % 2 == 0) {
                 list.singles(name, &[special(i), special(i + 1), special(j), special(j)]);
-            }
-        }
-        ShapeFields => {
-            for f in shapes::shapes().iter().chain(&shapes::refused_shapes()) {
-                list.singles(name, f);
             }
         }
     }
