@@ -25,21 +25,21 @@ pub enum Item {
     Contains(Bounds, CornerRadii, Point),
 }
 
-enum Counts {
+enum Pair {
     Of(usize, usize),
     Nothing,
 }
 
 // The first two words as numbers.
-fn counts(line: &[u8]) -> Counts {
+fn counts(line: &[u8]) -> Pair {
     let Number::Of(a) = text::read_decimal(text::first_word(line)) else {
-        return Counts::Nothing;
+        return Pair::Nothing;
     };
     let second = text::after_word(line);
     let Number::Of(b) = text::read_decimal(text::first_word(second)) else {
-        return Counts::Nothing;
+        return Pair::Nothing;
     };
-    Counts::Of(a as usize, b as usize)
+    Pair::Of(a as usize, b as usize)
 }
 
 fn has_words(line: &[u8]) -> bool {
@@ -48,7 +48,7 @@ fn has_words(line: &[u8]) -> bool {
 
 // A name with two numbers and no more.
 fn of_counts(name: &[u8], line: &[u8]) -> Item {
-    let Counts::Of(a, b) = counts(line) else {
+    let Pair::Of(a, b) = counts(line) else {
         return Item::Bad;
     };
     let second = text::after_word(line);
@@ -65,11 +65,11 @@ fn of_counts(name: &[u8], line: &[u8]) -> Item {
 }
 
 fn of_record(line: &[u8]) -> Item {
-    let Counts::Of(verbs, points) = counts(line) else {
+    let Pair::Of(verbs, points) = counts(line) else {
         return Item::Bad;
     };
     let second = text::after_word(line);
-    let o = words::operands(text::after_word(second));
+    let o = words::read_operands(text::after_word(second));
     let x = o.x;
     if o.count != 4 {
         return Item::Bad;
@@ -175,7 +175,7 @@ fn of_words(name: &[u8], line: &[u8]) -> Item {
     if same(name, b"floats") {
         return Item::Floats;
     }
-    of_floats(name, words::operands(line))
+    of_floats(name, words::read_operands(line))
 }
 
 pub fn item_of(line: &[u8]) -> Item {

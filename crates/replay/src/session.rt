@@ -1,5 +1,4 @@
 // The current list or raw stream, and what each line does to it.
-ghost use Prim.Native.Nat.{_≤_};
 use crate::answers;
 use crate::items;
 use crate::items::Item;
@@ -50,15 +49,6 @@ pub fn with_held(s: Session, held: usize) -> Session {
     s
 }
 
-fn least(a: usize, b: usize) -> usize
-    ensures { λ r. ⌜ r ≤ b ⌝ }
-{
-    if a < b {
-        return a;
-    }
-    b
-}
-
 // The next line's number.
 fn next_line(s: Session) -> Session {
     let mut s = s;
@@ -102,22 +92,54 @@ fn write_segments(b: Builder, verbs: &[u8], floats: &[f32]) -> bool {
 
 // What a list holds at its end: its record.
 fn write_end(s: Session) {
-    if let Kind::List = s.kind {
+    let kind = s.kind;
+    if let Kind::List = kind {
         answers::write_record(s.builder);
     }
     answers::write_word(b"end");
 }
 
-// The end of the current list or raw stream.
-pub fn end_stream(s: Session, verbs: &[u8], floats: &[f32]) {
-    if let Kind::Nothing = s.kind {
-        return;
-    }
-    let v = least(s.verbs, verbs.len());
-    let f = least(s.floats, floats.len());
-    if write_segments(s.builder, &verbs[..v], &floats[..f]) {
+fn write_stream(s: Session, verbs: &[u8], floats: &[f32]) {
+    if write_segments(s.builder, verbs, floats) {
         write_end(s);
     }
+}
+
+// What may be asked of a list or a raw stream.
+enum Question {
+    All,
+    At(Cursor),
+    Box,
+}
+
+fn answer(s: Session, q: Question, verbs: &[u8], floats: &[f32]) {
+    match q {
+        Question::All => write_stream(s, verbs, floats),
+        Question::At(c) => answers::write_reading(reader::read(s.builder, verbs, floats, c)),
+        Question::Box => answers::write_bounded(reader::bounds(s.builder, verbs, floats)),
+    }
+}
+
+// The question to the part of the buffers that is lent.
+fn ask(s: Session, q: Question, verbs: &[u8], floats: &[f32]) {
+    let v = s.verbs;
+    let f = s.floats;
+    if v > verbs.len() {
+        return;
+    }
+    if f > floats.len() {
+        return;
+    }
+    answer(s, q, &verbs[0..v], &floats[0..f]);
+}
+
+// The end of the current list or raw stream.
+pub fn end_stream(s: Session, verbs: &[u8], floats: &[f32]) {
+    let kind = s.kind;
+    if let Kind::Nothing = kind {
+        return;
+    }
+    ask(s, Question::All, verbs, floats);
 }
 
 fn clear_verbs(verbs: &mut [u8]) {
@@ -136,6 +158,19 @@ fn clear_floats(floats: &mut [f32]) {
     }
 }
 
+// Another list or raw stream, or another kind of it, in place of the current one.
+fn replaced(s: Session, kind: Kind, builder: Builder, verbs: usize, floats: usize) -> Session {
+    Session {
+        kind,
+        builder,
+        verbs,
+        floats,
+        line: s.line,
+        held: s.held,
+        stopped: s.stopped,
+    }
+}
+
 fn begin_list(s: Session, v: usize, f: usize, verbs: &mut [u8], floats: &mut [f32]) -> Session {
     if v > verbs.len() {
         return bad_line(s);
@@ -146,53 +181,55 @@ fn begin_list(s: Session, v: usize, f: usize, verbs: &mut [u8], floats: &mut [f3
     end_stream(s, verbs, floats);
     clear_verbs(verbs);
     clear_floats(floats);
-    let mut s = s;
-    s.kind = Kind::List;
-    s.builder = stream::new();
-    s.verbs = v;
-    s.floats = f;
-    s
+    replaced(s, Kind::List, stream::new(), v, f)
 }
 
 fn begin_raw(s: Session, v: usize, p: usize, verbs: &[u8], floats: &[f32]) -> Session {
     end_stream(s, verbs, floats);
-    let mut s = s;
-    s.kind = Kind::Raw;
-    s.builder = Builder {
+    let b = Builder {
         verbs: v,
         points: p,
         start: Point { x: 0.0, y: 0.0 },
         pen: Point { x: 0.0, y: 0.0 },
     };
-    s.verbs = 0;
-    s.floats = 0;
-    s
+    replaced(s, Kind::Raw, b, 0, 0)
 }
 
-// One call of the library, whichever it is.
-fn build(s: Session, call: Call, verbs: &mut [u8], floats: &mut [f32]) -> Session {
-    let Kind::List = s.kind else {
-        return bad_line(s);
-    };
-    let v = least(s.verbs, verbs.len());
-    let f = least(s.floats, floats.len());
-    let a = builder::apply(s.builder, &mut verbs[..v], &mut floats[..f], call);
-    let mut s = s;
-    s.builder = answers::write_built(call, a);
-    s
-}
-
-fn set_record(s: Session, b: Builder) -> Session {
-    let Kind::List = s.kind else {
-        return bad_line(s);
-    };
+fn set_builder(s: Session, b: Builder) -> Session {
     let mut s = s;
     s.builder = b;
     s
 }
 
+// One call of the library, whichever it is.
+fn build(s: Session, call: Call, verbs: &mut [u8], floats: &mut [f32]) -> Session {
+    let kind = s.kind;
+    let Kind::List = kind else {
+        return bad_line(s);
+    };
+    let v = s.verbs;
+    let f = s.floats;
+    if v > verbs.len() {
+        return s;
+    }
+    if f > floats.len() {
+        return s;
+    }
+    let a = builder::apply(s.builder, &mut verbs[0..v], &mut floats[0..f], call);
+    set_builder(s, answers::write_built(call, a))
+}
+
+fn set_record(s: Session, b: Builder) -> Session {
+    let kind = s.kind;
+    let Kind::List = kind else {
+        return bad_line(s);
+    };
+    set_builder(s, b)
+}
+
 fn grow_verbs(s: Session, line: &[u8], verbs: &mut [u8]) -> Session {
-    let Kind::Raw = s.kind else {
+    let kind = s.kind;
+    let Kind::Raw = kind else {
         return bad_line(s);
     };
     let held = words::push_verbs(line, verbs, s.verbs);
@@ -205,7 +242,8 @@ fn grow_verbs(s: Session, line: &[u8], verbs: &mut [u8]) -> Session {
 }
 
 fn grow_floats(s: Session, line: &[u8], floats: &mut [f32]) -> Session {
-    let Kind::Raw = s.kind else {
+    let kind = s.kind;
+    let Kind::Raw = kind else {
         return bad_line(s);
     };
     let held = words::push_floats(line, floats, s.floats);
@@ -219,31 +257,19 @@ fn grow_floats(s: Session, line: &[u8], floats: &mut [f32]) -> Session {
 
 // A raw stream that is asked something grows no more.
 fn asked(s: Session) -> Session {
-    let Kind::Raw = s.kind else {
+    let kind = s.kind;
+    let Kind::Raw = kind else {
         return s;
     };
-    let mut s = s;
-    s.kind = Kind::Asked;
-    s
+    replaced(s, Kind::Asked, s.builder, s.verbs, s.floats)
 }
 
-fn read_at(s: Session, c: Cursor, verbs: &[u8], floats: &[f32]) -> Session {
-    if let Kind::Nothing = s.kind {
+fn put_question(s: Session, q: Question, verbs: &[u8], floats: &[f32]) -> Session {
+    let kind = s.kind;
+    if let Kind::Nothing = kind {
         return bad_line(s);
     }
-    let v = least(s.verbs, verbs.len());
-    let f = least(s.floats, floats.len());
-    answers::write_reading(reader::read(s.builder, &verbs[..v], &floats[..f], c));
-    asked(s)
-}
-
-fn find_box(s: Session, verbs: &[u8], floats: &[f32]) -> Session {
-    if let Kind::Nothing = s.kind {
-        return bad_line(s);
-    }
-    let v = least(s.verbs, verbs.len());
-    let f = least(s.floats, floats.len());
-    answers::write_bounded(reader::bounds(s.builder, &verbs[..v], &floats[..f]));
+    ask(s, q, verbs, floats);
     asked(s)
 }
 
@@ -257,8 +283,8 @@ fn take_item(s: Session, line: &[u8], verbs: &mut [u8], floats: &mut [f32]) -> S
         Item::Raw(v, p) => begin_raw(s, v, p, verbs, floats),
         Item::Verbs => grow_verbs(s, text::after_word(line), verbs),
         Item::Floats => grow_floats(s, text::after_word(line), floats),
-        Item::At(c) => read_at(s, c, verbs, floats),
-        Item::Box => find_box(s, verbs, floats),
+        Item::At(c) => put_question(s, Question::At(c), verbs, floats),
+        Item::Box => put_question(s, Question::Box, verbs, floats),
         Item::Contains(bounds, radii, p) => {
             answers::write_contains(RoundSuperellipse::new(bounds, radii), p);
             s

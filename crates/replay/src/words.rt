@@ -40,7 +40,7 @@ fn with_next(o: Operands, word: &[u8]) -> Operands {
 }
 
 // The singles that the words of a line spell.
-pub fn operands(line: &[u8]) -> Operands {
+pub fn read_operands(line: &[u8]) -> Operands {
     let mut o = Operands {
         count: 0,
         x: [0.0; 14],
@@ -48,11 +48,13 @@ pub fn operands(line: &[u8]) -> Operands {
     let mut at = 0;
     while at < line.len() {
         let w = next_word(line, at);
-        if w.start == w.end {
+        let start = w.start;
+        let end = w.end;
+        if start == end {
             return o;
         }
-        o = with_next(o, &line[w.start..w.end]);
-        at = w.end;
+        o = with_next(o, &line[start..end]);
+        at = end;
     }
     o
 }
@@ -75,14 +77,16 @@ pub fn push_floats(line: &[u8], floats: &mut [f32], held: usize) -> usize {
     let mut at = 0;
     while at < line.len() {
         let w = next_word(line, at);
-        if w.start == w.end {
+        let start = w.start;
+        let end = w.end;
+        if start == end {
             return held;
         }
-        held = push_float(&line[w.start..w.end], floats, held);
+        held = push_float(&line[start..end], floats, held);
         if held > floats.len() {
             return held;
         }
-        at = w.end;
+        at = end;
     }
     held
 }
@@ -101,7 +105,8 @@ fn push_bytes(word: &[u8], verbs: &mut [u8], held: usize) -> usize {
         if held >= verbs.len() {
             return verbs.len() + 1;
         }
-        verbs[held] = b as u8;
+        // two digits spell no more
+        verbs[held] = (b % 256) as u8;
         held += 1;
         i += 2;
     }
@@ -114,14 +119,16 @@ pub fn push_verbs(line: &[u8], verbs: &mut [u8], held: usize) -> usize {
     let mut at = 0;
     while at < line.len() {
         let w = next_word(line, at);
-        if w.start == w.end {
+        let start = w.start;
+        let end = w.end;
+        if start == end {
             return held;
         }
-        held = push_bytes(&line[w.start..w.end], verbs, held);
+        held = push_bytes(&line[start..end], verbs, held);
         if held > verbs.len() {
             return held;
         }
-        at = w.end;
+        at = end;
     }
     held
 }
