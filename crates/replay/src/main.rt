@@ -19,6 +19,22 @@ fn hold(line: &mut [u8], held: usize, part: &[u8]) -> usize {
     text::put(line, held, part)
 }
 
+// A part of a line, and whether the line ends there.
+fn take_part(
+    s: Session,
+    part: &[u8],
+    ends: bool,
+    line: &mut [u8],
+    verbs: &mut [u8],
+    floats: &mut [f32],
+) -> Session {
+    let held = hold(line, s.held, part);
+    if ends {
+        return session::take_line(s, line, held, verbs, floats);
+    }
+    session::with_held(s, held)
+}
+
 // Every line that ends in the piece, and what is held of the next.
 fn take_piece(
     s: Session,
@@ -33,14 +49,12 @@ fn take_piece(
         if s.stopped {
             return s;
         }
-        let rest = &piece[at..];
-        let n = text::leading(rest, text::Class::Line);
-        let held = hold(line, s.held, &rest[0..n]);
-        if n == rest.len() {
-            return session::with_held(s, held);
-        }
-        s = session::take_line(s, line, held, verbs, floats);
-        at = at + n + 1;
+        let n = text::leading(&piece[at..], text::Class::Line);
+        let end = at + n;
+        let next = end + 1;
+        let ends = end < piece.len();
+        s = take_part(s, &piece[at..end], ends, line, verbs, floats);
+        at = next;
     }
     s
 }
@@ -85,15 +99,20 @@ fn take_all(line: &mut [u8], verbs: &mut [u8], floats: &mut [f32]) -> Session {
 }
 
 // The last line may lack its end.
-fn finish(s: Session, line: &[u8], verbs: &mut [u8], floats: &mut [f32]) {
-    let mut s = s;
-    if s.held > 0 {
-        s = session::take_line(s, line, s.held, verbs, floats);
+fn take_last(s: Session, line: &[u8], verbs: &mut [u8], floats: &mut [f32]) -> Session {
+    let held = s.held;
+    if held > 0 {
+        return session::take_line(s, line, held, verbs, floats);
     }
-    if s.stopped {
+    s
+}
+
+fn finish(s: Session, line: &[u8], verbs: &mut [u8], floats: &mut [f32]) {
+    let t = take_last(s, line, verbs, floats);
+    if t.stopped {
         return;
     }
-    session::end_stream(s, verbs, floats);
+    session::end_stream(t, verbs, floats);
 }
 
 fn main() {
