@@ -23,10 +23,7 @@ fn made(x: [f32; 12]) -> Answer {
         top_left: Point { x: x[4], y: x[5] },
         top_right: Point { x: x[6], y: x[7] },
         bottom_left: Point { x: x[8], y: x[9] },
-        bottom_right: Point {
-            x: x[10],
-            y: x[11],
-        },
+        bottom_right: Point { x: x[10], y: x[11] },
     };
     RoundSuperellipse::new(bounds, radii)
 }
