@@ -1,36 +1,63 @@
 //! usage: oracle vectors            the vectors of the float ground
 //!        oracle answers            an answer for each vector on standard input
+//!        oracle shapes             shapes, twelve floats a line
+//!        oracle shape-fields       every field of each shape on standard input
+//!        oracle replay-lists       calls, streams and points for the program `replay`
+//!        oracle outline-lists      the same for outlines
+//!        oracle replay             the answers to such a text on standard input
 
 use std::io::{self, BufRead, Write};
 
 mod answers;
+mod replay;
+mod replay_lists;
+mod shapes;
+mod stream;
 mod vectors;
 mod words;
 
-fn print_vectors(out: &mut impl Write) -> io::Result<()> {
-    for line in vectors::vectors() {
+fn print_lines(out: &mut impl Write, lines: Vec<String>) -> io::Result<()> {
+    for line in lines {
         writeln!(out, "{line}")?;
     }
     Ok(())
 }
 
-fn print_answers(out: &mut impl Write) -> io::Result<()> {
+fn print_answers(out: &mut impl Write, answer: fn(&[u8]) -> Option<String>) -> io::Result<()> {
     for line in io::stdin().lock().split(b'\n') {
-        if let Some(text) = answers::answer(&line?) {
+        if let Some(text) = answer(&line?) {
             writeln!(out, "{text}")?;
         }
     }
     Ok(())
 }
 
+fn print_replay(out: &mut impl Write) -> io::Result<()> {
+    let mut replay = replay::Replay::new();
+    for (i, line) in io::stdin().lock().split(b'\n').enumerate() {
+        let good = replay.line(&line?);
+        print_lines(out, std::mem::take(&mut replay.out))?;
+        if good.is_none() {
+            return writeln!(out, "bad line {}", i + 1);
+        }
+    }
+    replay.end_stream();
+    print_lines(out, replay.out)
+}
+
 fn main() -> io::Result<()> {
     let mut out = io::BufWriter::new(io::stdout().lock());
     let words: Vec<String> = std::env::args().skip(1).collect();
     match words.iter().map(String::as_str).collect::<Vec<_>>()[..] {
-        ["vectors"] => print_vectors(&mut out),
-        ["answers"] => print_answers(&mut out),
+        ["vectors"] => print_lines(&mut out, vectors::vectors()),
+        ["answers"] => print_answers(&mut out, answers::answer),
+        ["shapes"] => print_lines(&mut out, shapes::lines()),
+        ["shape-fields"] => print_answers(&mut out, shapes::answer),
+        ["replay-lists"] => print_lines(&mut out, replay_lists::lists()),
+        ["outline-lists"] => print_lines(&mut out, replay_lists::outlines()),
+        ["replay"] => print_replay(&mut out),
         _ => {
-            eprintln!("usage: oracle vectors | oracle answers");
+            eprintln!("usage: oracle vectors | answers | shapes | shape-fields | replay-lists | outline-lists | replay");
             std::process::exit(2);
         }
     }?;
