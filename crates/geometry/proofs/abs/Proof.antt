@@ -2,19 +2,13 @@ use Rattle.geometry.specs.Point.{absPoint}
 use borrow.Author.Needs.{needs}
 use Rattle.geometry.proofs.abs.Statement.{statement}
 use Rattle.geometry.proofs.abs.Tie as tie
-use Rattle.geometry.proofs.abs.Reads as reads
-use Rattle.geometry.proofs.abs.Lts as lts
-use Rattle.ieee.proofs.abs.Reads as abs-reads
 
--- src/lib.rt:76:12
 abs-requires : tie.Need-abs-requires
 abs-requires c κs = search needs
 
--- src/lib.rt:77:12
 abs-requires-2 : tie.Need-abs-requires-2
 abs-requires-2 c κs = search needs
 
--- src/lib.rt:72:1
 returns : tie.Need-returns
 unfolding absPoint
 returns c = rw (← c .before .abs .ensures, ← c .abs2 .ensures)

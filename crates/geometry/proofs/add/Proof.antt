@@ -2,10 +2,7 @@ use Rattle.geometry.specs.Point.{addOf}
 use mathlib.Core.Path.{refl}
 use Rattle.geometry.proofs.add.Statement.{statement}
 use Rattle.geometry.proofs.add.Tie as tie
-use Rattle.geometry.proofs.add.Reads as reads
-use Rattle.geometry.proofs.add.Lts as lts
 
--- src/lib.rt:11:1
 returns : tie.Need-returns
 unfolding addOf
 returns c = refl

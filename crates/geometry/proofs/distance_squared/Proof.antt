@@ -2,20 +2,13 @@ use Rattle.geometry.specs.Point.{distanceSquaredOf}
 use borrow.Author.Needs.{needs}
 use Rattle.geometry.proofs.distance_squared.Statement.{statement}
 use Rattle.geometry.proofs.distance_squared.Tie as tie
-use Rattle.geometry.proofs.distance_squared.Reads as reads
-use Rattle.geometry.proofs.distance_squared.Lts as lts
-use Rattle.geometry.proofs.length_squared.Reads as length-squared-reads
-use Rattle.geometry.proofs.sub.Reads as sub-reads
 
--- src/lib.rt:96:20
 sub-requires : tie.Need-sub-requires
 sub-requires c κs = search needs
 
--- src/lib.rt:96:5
 length-squared-requires : tie.Need-length-squared-requires
 length-squared-requires c κs = search needs
 
--- src/lib.rt:93:1
 returns : tie.Need-returns
 unfolding distanceSquaredOf
 returns c = rw (← c .before .sub .ensures, ← c .length-squared .ensures)

@@ -2,10 +2,7 @@ use Rattle.geometry.specs.Point.{divOf}
 use mathlib.Core.Path.{refl}
 use Rattle.geometry.proofs.div.Statement.{statement}
 use Rattle.geometry.proofs.div.Tie as tie
-use Rattle.geometry.proofs.div.Reads as reads
-use Rattle.geometry.proofs.div.Lts as lts
 
--- src/lib.rt:38:1
 returns : tie.Need-returns
 unfolding divOf
 returns c = refl

@@ -2,10 +2,7 @@ use Rattle.geometry.specs.Point.{subOf}
 use mathlib.Core.Path.{refl}
 use Rattle.geometry.proofs.sub.Statement.{statement}
 use Rattle.geometry.proofs.sub.Tie as tie
-use Rattle.geometry.proofs.sub.Reads as reads
-use Rattle.geometry.proofs.sub.Lts as lts
 
--- src/lib.rt:20:1
 returns : tie.Need-returns
 unfolding subOf
 returns c = refl

@@ -1,20 +1,15 @@
 use Rattle.ieee.specs.Basic.{clampOf}
 use Rattle.ieee.proofs.clamp.Statement.{statement}
 use Rattle.ieee.proofs.clamp.Tie as tie
-use Rattle.ieee.proofs.clamp.Reads as reads
-use Rattle.ieee.proofs.clamp.Lts as lts
 
--- src/lib.rt:77:9
 returns : tie.Need-returns
 unfolding clampOf
 returns c = rw (c .if1 .taken)
 
--- src/lib.rt:80:9
 returns-2 : tie.Need-returns-2
 unfolding clampOf
 returns-2 c = rw (c .before .if1 .left, c .if2 .taken)
 
--- src/lib.rt:73:1
 returns-3 : tie.Need-returns-3
 unfolding clampOf
 returns-3 c = rw (c .before .if1 .left, c .if2 .left)

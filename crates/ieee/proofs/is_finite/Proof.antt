@@ -1,14 +1,10 @@
 use Rattle.ieee.proofs.Simple.{finite-is, minus-inf32-is, inf32-is}
 use Rattle.ieee.proofs.is_finite.Statement.{statement}
 use Rattle.ieee.proofs.is_finite.Tie as tie
-use Rattle.ieee.proofs.is_finite.Reads as reads
-use Rattle.ieee.proofs.is_finite.Lts as lts
 
--- src/lib.rt:19:1
 returns : tie.Need-returns
 returns c = rw (← finite-is (c .before .args .x), ← minus-inf32-is, ← inf32-is, c .if1 .taken)
 
--- src/lib.rt:19:1
 returns-2 : tie.Need-returns-2
 returns-2 c = rw (← finite-is (c .before .args .x), ← minus-inf32-is, ← inf32-is, c .if1 .left)
 

@@ -5,8 +5,6 @@ use borrow.Author.Needs.{needs}
 use Rattle.ieee.proofs.Steps.{square-bound, down-one}
 use Rattle.ieee.proofs.lowered.Statement.{statement}
 use Rattle.ieee.proofs.lowered.Tie as tie
-use Rattle.ieee.proofs.lowered.Reads as reads
-use Rattle.ieee.proofs.lowered.Lts as lts
 
 abbrev Inv-loop : tie.InvT-loop
 Inv-loop w r r₀ r' = (r' ≤ 2 ^ 25) × (w ≤ r' * r' + r')

@@ -1,20 +1,15 @@
 use Rattle.ieee.specs.Basic.{maxOf}
 use Rattle.ieee.proofs.max.Statement.{statement}
 use Rattle.ieee.proofs.max.Tie as tie
-use Rattle.ieee.proofs.max.Reads as reads
-use Rattle.ieee.proofs.max.Lts as lts
 
--- src/lib.rt:65:9
 returns : tie.Need-returns
 unfolding maxOf
 returns c = rw (c .if1 .taken)
 
--- src/lib.rt:68:9
 returns-2 : tie.Need-returns-2
 unfolding maxOf
 returns-2 c = rw (c .before .if1 .left, c .if2 .taken)
 
--- src/lib.rt:61:1
 returns-3 : tie.Need-returns-3
 unfolding maxOf
 returns-3 c = rw (c .before .if1 .left, c .if2 .left)

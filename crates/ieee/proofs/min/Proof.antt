@@ -1,20 +1,15 @@
 use Rattle.ieee.specs.Basic.{minOf}
 use Rattle.ieee.proofs.min.Statement.{statement}
 use Rattle.ieee.proofs.min.Tie as tie
-use Rattle.ieee.proofs.min.Reads as reads
-use Rattle.ieee.proofs.min.Lts as lts
 
--- src/lib.rt:53:9
 returns : tie.Need-returns
 unfolding minOf
 returns c = rw (c .if1 .taken)
 
--- src/lib.rt:56:9
 returns-2 : tie.Need-returns-2
 unfolding minOf
 returns-2 c = rw (c .before .if1 .left, c .if2 .taken)
 
--- src/lib.rt:49:1
 returns-3 : tie.Need-returns-3
 unfolding minOf
 returns-3 c = rw (c .before .if1 .left, c .if2 .left)

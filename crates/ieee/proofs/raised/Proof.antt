@@ -5,8 +5,6 @@ use borrow.Author.Needs.{needs}
 use Rattle.ieee.proofs.Steps.{square-bound, room, up-one}
 use Rattle.ieee.proofs.raised.Statement.{statement}
 use Rattle.ieee.proofs.raised.Tie as tie
-use Rattle.ieee.proofs.raised.Reads as reads
-use Rattle.ieee.proofs.raised.Lts as lts
 
 abbrev Inv-loop : tie.InvT-loop
 Inv-loop w r r₀ r' = (r' ≤ 2 ^ 24) × (r' * r' < w + r')

@@ -2,15 +2,10 @@ use Rattle.ieee.specs.Basic.{widenOf}
 use borrow.Author.Needs.{needs}
 use Rattle.ieee.proofs.widen.Statement.{statement}
 use Rattle.ieee.proofs.widen.Tie as tie
-use Rattle.ieee.proofs.widen.Reads as reads
-use Rattle.ieee.proofs.widen.Lts as lts
-use Rattle.std.proofs.num.f32_to_f64_with_nan.Reads as f32-to-f64-with-nan-reads
 
--- src/lib.rt:15:5
 f32-to-f64-with-nan-requires : tie.Need-f32-to-f64-with-nan-requires
 f32-to-f64-with-nan-requires c κs = search needs
 
--- src/lib.rt:12:1
 returns : tie.Need-returns
 unfolding widenOf
 returns c = rw (← c .f32-to-f64-with-nan .ensures)

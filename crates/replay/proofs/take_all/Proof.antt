@@ -4,10 +4,6 @@ use borrow.Author.Needs.{needs}
 use lib.ListN.{length}
 use Rattle.replay.proofs.take_all.Statement.{statement}
 use Rattle.replay.proofs.take_all.Tie as tie
-use Rattle.replay.proofs.take_all.Reads as reads
-use Rattle.replay.proofs.take_all.Lts as lts
-use Rattle.replay.proofs.session.new.Reads as new-reads
-use Rattle.replay.proofs.take_some.Reads as take-some-reads
 
 abbrev Inv-loop : tie.InvT-loop
 Inv-loop line₀ verbs₀ floats₀ s₀ turns₀ line verbs floats s turns = (length line ≡ length line₀) × (length verbs ≡ length verbs₀) × (length floats ≡ length floats₀)

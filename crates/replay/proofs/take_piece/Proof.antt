@@ -5,10 +5,6 @@ use borrow.Author.Needs.{needs}
 use lib.ListN.{length}
 use Rattle.replay.proofs.take_piece.Statement.{statement}
 use Rattle.replay.proofs.take_piece.Tie as tie
-use Rattle.replay.proofs.take_piece.Reads as reads
-use Rattle.replay.proofs.take_piece.Lts as lts
-use Rattle.replay.proofs.take_part.Reads as take-part-reads
-use Rattle.text.proofs.leading.Reads as leading-reads
 
 abbrev Inv-loop : tie.InvT-loop
 Inv-loop piece line₀ verbs₀ floats₀ s₀ at₀ line verbs floats s at = (at ≤ length piece + 1) × (length line ≡ length line₀) × (length verbs ≡ length verbs₀) × (length floats ≡ length floats₀)

@@ -5,11 +5,6 @@ use borrow.Author.Needs.{needs}
 use lib.ListN.{length}
 use Rattle.shapes.proofs.take_piece.Statement.{statement}
 use Rattle.shapes.proofs.take_piece.Tie as tie
-use Rattle.shapes.proofs.take_piece.Reads as reads
-use Rattle.shapes.proofs.take_piece.Lts as lts
-use Rattle.text.proofs.leading.Reads as leading-reads
-use Rattle.shapes.proofs.finish.Reads as finish-reads
-use Rattle.shapes.proofs.hold.Reads as hold-reads
 
 abbrev Inv-loop : tie.InvT-loop
 Inv-loop piece line₀ held held₀ at₀ line held' at = (at ≤ length piece) × (length line ≡ length line₀)

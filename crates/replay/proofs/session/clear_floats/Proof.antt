@@ -5,8 +5,6 @@ use borrow.Author.Needs.{needs}
 use lib.ListN.{length}
 use Rattle.replay.proofs.session.clear_floats.Statement.{statement}
 use Rattle.replay.proofs.session.clear_floats.Tie as tie
-use Rattle.replay.proofs.session.clear_floats.Reads as reads
-use Rattle.replay.proofs.session.clear_floats.Lts as lts
 
 abbrev Inv-loop : tie.InvT-loop
 Inv-loop floats₀ i₀ floats i = (i ≤ length floats₀) × (length floats ≡ length floats₀)

@@ -5,8 +5,6 @@ use borrow.Author.Needs.{needs}
 use lib.ListN.{length}
 use Rattle.replay.proofs.session.clear_verbs.Statement.{statement}
 use Rattle.replay.proofs.session.clear_verbs.Tie as tie
-use Rattle.replay.proofs.session.clear_verbs.Reads as reads
-use Rattle.replay.proofs.session.clear_verbs.Lts as lts
 
 abbrev Inv-loop : tie.InvT-loop
 Inv-loop verbs₀ i₀ verbs i = (i ≤ length verbs₀) × (length verbs ≡ length verbs₀)

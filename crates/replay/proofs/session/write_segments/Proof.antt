@@ -4,12 +4,6 @@ use borrow.Author.Needs.{needs}
 use lib.ListN.{length}
 use Rattle.replay.proofs.session.write_segments.Statement.{statement}
 use Rattle.replay.proofs.session.write_segments.Tie as tie
-use Rattle.replay.proofs.session.write_segments.Reads as reads
-use Rattle.replay.proofs.session.write_segments.Lts as lts
-use Rattle.reader.proofs.read.Reads as read-reads
-use Rattle.replay.proofs.answers.write_reading.Reads as write-reading-reads
-use Rattle.replay.proofs.answers.write_segment.Reads as write-segment-reads
-use Rattle.replay.proofs.session.is_end.Reads as is-end-reads
 
 abbrev Inv-loop : tie.InvT-loop
 Inv-loop b verbs floats c₀ i₀ c i = i ≤ length verbs + 1

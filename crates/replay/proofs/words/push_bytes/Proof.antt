@@ -5,9 +5,6 @@ use borrow.Author.Needs.{needs}
 use lib.ListN.{length}
 use Rattle.replay.proofs.words.push_bytes.Statement.{statement}
 use Rattle.replay.proofs.words.push_bytes.Tie as tie
-use Rattle.replay.proofs.words.push_bytes.Reads as reads
-use Rattle.replay.proofs.words.push_bytes.Lts as lts
-use Rattle.text.proofs.read_hexadecimal.Reads as read-hexadecimal-reads
 
 abbrev Inv-loop : tie.InvT-loop
 Inv-loop word verbs₀ held held₀ i₀ verbs held' i = (i ≤ length word) × (length verbs ≡ length verbs₀)

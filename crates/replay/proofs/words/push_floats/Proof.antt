@@ -5,10 +5,6 @@ use borrow.Author.Needs.{needs}
 use lib.ListN.{length}
 use Rattle.replay.proofs.words.push_floats.Statement.{statement}
 use Rattle.replay.proofs.words.push_floats.Tie as tie
-use Rattle.replay.proofs.words.push_floats.Reads as reads
-use Rattle.replay.proofs.words.push_floats.Lts as lts
-use Rattle.replay.proofs.words.next_word.Reads as next-word-reads
-use Rattle.replay.proofs.words.push_float.Reads as push-float-reads
 
 abbrev Inv-loop : tie.InvT-loop
 Inv-loop line floats₀ held held₀ at₀ floats held' at = (at ≤ length line) × (length floats ≡ length floats₀)

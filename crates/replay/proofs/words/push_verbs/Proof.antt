@@ -5,10 +5,6 @@ use borrow.Author.Needs.{needs}
 use lib.ListN.{length}
 use Rattle.replay.proofs.words.push_verbs.Statement.{statement}
 use Rattle.replay.proofs.words.push_verbs.Tie as tie
-use Rattle.replay.proofs.words.push_verbs.Reads as reads
-use Rattle.replay.proofs.words.push_verbs.Lts as lts
-use Rattle.replay.proofs.words.next_word.Reads as next-word-reads
-use Rattle.replay.proofs.words.push_bytes.Reads as push-bytes-reads
 
 abbrev Inv-loop : tie.InvT-loop
 Inv-loop line verbs₀ held held₀ at₀ verbs held' at = (at ≤ length line) × (length verbs ≡ length verbs₀)

@@ -4,10 +4,6 @@ use borrow.Author.Needs.{needs}
 use lib.ListN.{length}
 use Rattle.replay.proofs.words.read_operands.Statement.{statement}
 use Rattle.replay.proofs.words.read_operands.Tie as tie
-use Rattle.replay.proofs.words.read_operands.Reads as reads
-use Rattle.replay.proofs.words.read_operands.Lts as lts
-use Rattle.replay.proofs.words.next_word.Reads as next-word-reads
-use Rattle.replay.proofs.words.with_next.Reads as with-next-reads
 
 abbrev Inv-loop : tie.InvT-loop
 Inv-loop line o₀ at₀ o at = at ≤ length line

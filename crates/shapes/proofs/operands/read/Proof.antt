@@ -4,10 +4,6 @@ use borrow.Author.Needs.{needs}
 use lib.ListN.{length}
 use Rattle.shapes.proofs.operands.read.Statement.{statement}
 use Rattle.shapes.proofs.operands.read.Tie as tie
-use Rattle.shapes.proofs.operands.read.Reads as reads
-use Rattle.shapes.proofs.operands.read.Lts as lts
-use Rattle.shapes.proofs.operands.with_next.Reads as with-next-reads
-use Rattle.text.proofs.leading.Reads as leading-reads
 
 abbrev Inv-loop : tie.InvT-loop
 Inv-loop line o₀ at₀ o at = at ≤ length line

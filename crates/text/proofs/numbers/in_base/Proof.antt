@@ -9,9 +9,6 @@ use Rattle.text.specs.Numbers.{digitOf, numberFrom, numberOf}
 use Rattle.text.proofs.Spelling.{next-digit, no-digit, too-large, no-digits-left, from-first, none-of-empty, within, beyond}
 use Rattle.text.proofs.numbers.in_base.Statement.{statement}
 use Rattle.text.proofs.numbers.in_base.Tie as tie
-use Rattle.text.proofs.numbers.in_base.Reads as reads
-use Rattle.text.proofs.numbers.in_base.Lts as lts
-use Rattle.text.proofs.numbers.digit.Reads as digit-reads
 
 abbrev Inv-loop : tie.InvT-loop
 Inv-loop s base n₀ i₀ n i = (i ≤ length s) × (n < 2 ^ 64) × (numberOf base s ≡ numberFrom base n (drop i s))

@@ -9,11 +9,6 @@ use Rattle.text.proofs.Patterns.{zero-by-zero}
 use Rattle.text.proofs.Spelling.{as-nan, as-bytes, as-neither}
 use Rattle.text.proofs.numbers.read_double.Statement.{statement}
 use Rattle.text.proofs.numbers.read_double.Tie as tie
-use Rattle.text.proofs.numbers.read_double.Reads as reads
-use Rattle.text.proofs.numbers.read_double.Lts as lts
-use Rattle.check.proofs.same.Reads as same-reads
-use Rattle.text.proofs.numbers.read_hexadecimal.Reads as read-hexadecimal-reads
-use Rattle.text.proofs.numbers.f64_of_bits.Reads as f64-of-bits-reads
 
 -- past the first test
 not-nan : (c : tie.Else1) → c .before .before .before .before .args .s .now ≡ nanText → ⊥

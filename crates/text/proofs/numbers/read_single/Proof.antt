@@ -9,11 +9,6 @@ use Rattle.text.proofs.Patterns.{zero-by-zero}
 use Rattle.text.proofs.Spelling.{as-nan, as-bytes, as-neither, eight-digits}
 use Rattle.text.proofs.numbers.read_single.Statement.{statement}
 use Rattle.text.proofs.numbers.read_single.Tie as tie
-use Rattle.text.proofs.numbers.read_single.Reads as reads
-use Rattle.text.proofs.numbers.read_single.Lts as lts
-use Rattle.check.proofs.same.Reads as same-reads
-use Rattle.text.proofs.numbers.read_hexadecimal.Reads as read-hexadecimal-reads
-use Rattle.text.proofs.numbers.f32_of_bits.Reads as f32-of-bits-reads
 
 -- past the first test
 not-nan : (c : tie.Else1) → c .before .before .before .before .args .s .now ≡ nanText → ⊥

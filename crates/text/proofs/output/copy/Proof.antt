@@ -9,8 +9,6 @@ use lib.ListN.{length, length-set, getD, set}
 use lib.Seq.{paste, paste-zero, paste-suc, length-paste}
 use Rattle.text.proofs.output.copy.Statement.{statement}
 use Rattle.text.proofs.output.copy.Tie as tie
-use Rattle.text.proofs.output.copy.Reads as reads
-use Rattle.text.proofs.output.copy.Lts as lts
 
 abbrev Inv-loop : tie.InvT-loop
 Inv-loop out₀ at text i₀ out i = (i ≤ length text) × (length out ≡ length out₀) × (out ≡ paste out₀ at text i)

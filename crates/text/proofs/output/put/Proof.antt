@@ -7,9 +7,6 @@ use lib.ListN.{length}
 use Rattle.text.proofs.Placing.{no-room, room}
 use Rattle.text.proofs.output.put.Statement.{statement}
 use Rattle.text.proofs.output.put.Tie as tie
-use Rattle.text.proofs.output.put.Reads as reads
-use Rattle.text.proofs.output.put.Lts as lts
-use Rattle.text.proofs.output.copy.Reads as copy-reads
 
 returns : tie.Need-returns
 returns c =

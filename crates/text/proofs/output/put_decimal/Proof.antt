@@ -7,10 +7,6 @@ use Rattle.text.specs.Written.{decimalText}
 use Rattle.text.proofs.Placing.{decimal-places, rewritten}
 use Rattle.text.proofs.output.put_decimal.Statement.{statement}
 use Rattle.text.proofs.output.put_decimal.Tie as tie
-use Rattle.text.proofs.output.put_decimal.Reads as reads
-use Rattle.text.proofs.output.put_decimal.Lts as lts
-use Rattle.io.proofs.decimal.Reads as decimal-reads
-use Rattle.text.proofs.output.put.Reads as put-reads
 
 decimal-requires : tie.Need-decimal-requires
 decimal-requires c κs = search needs

@@ -11,10 +11,6 @@ use Rattle.text.specs.Written.{doubleText, hexadecimalText}
 use Rattle.text.proofs.Placing.{rewritten, double-text, double-nan}
 use Rattle.text.proofs.output.put_double.Statement.{statement}
 use Rattle.text.proofs.output.put_double.Tie as tie
-use Rattle.text.proofs.output.put_double.Reads as reads
-use Rattle.text.proofs.output.put_double.Lts as lts
-use Rattle.text.proofs.output.put.Reads as put-reads
-use Rattle.text.proofs.output.put_hexadecimal.Reads as put-hexadecimal-reads
 
 slice-aggregate-put : tie.Need-slice-aggregate-put
 slice-aggregate-put c = search needs

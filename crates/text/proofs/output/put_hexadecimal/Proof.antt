@@ -8,10 +8,6 @@ use Rattle.text.specs.Written.{hexadecimalText}
 use Rattle.text.proofs.Placing.{at-least, rewritten}
 use Rattle.text.proofs.output.put_hexadecimal.Statement.{statement}
 use Rattle.text.proofs.output.put_hexadecimal.Tie as tie
-use Rattle.text.proofs.output.put_hexadecimal.Reads as reads
-use Rattle.text.proofs.output.put_hexadecimal.Lts as lts
-use Rattle.io.proofs.hex.Reads as hex-reads
-use Rattle.text.proofs.output.put.Reads as put-reads
 
 hex-requires : tie.Need-hex-requires
 hex-requires c κs = search needs

@@ -14,10 +14,6 @@ use Rattle.text.specs.Written.{singleText}
 use Rattle.text.proofs.Placing.{at-least, rewritten, single-text, single-nan}
 use Rattle.text.proofs.output.put_single.Statement.{statement}
 use Rattle.text.proofs.output.put_single.Tie as tie
-use Rattle.text.proofs.output.put_single.Reads as reads
-use Rattle.text.proofs.output.put_single.Lts as lts
-use Rattle.text.proofs.output.put.Reads as put-reads
-use Rattle.io.proofs.hex.Reads as hex-reads
 
 is-number : (c : tie.Else1) → T (not (isNan (c .before .before .args .x)))
 is-number c = self-equal _ (c .if1 .left)

@@ -9,9 +9,6 @@ use Rattle.text.specs.Words.{afterBlanks}
 use Rattle.text.proofs.Scanning.{whole-rest}
 use Rattle.text.proofs.words.after_blanks.Statement.{statement}
 use Rattle.text.proofs.words.after_blanks.Tie as tie
-use Rattle.text.proofs.words.after_blanks.Reads as reads
-use Rattle.text.proofs.words.after_blanks.Lts as lts
-use Rattle.text.proofs.words.leading.Reads as leading-reads
 
 leading-requires : tie.Need-leading-requires
 leading-requires c κs = search needs

@@ -5,10 +5,6 @@ use Rattle.text.specs.Words.{afterWord}
 use Rattle.text.proofs.Scanning.{whole-rest}
 use Rattle.text.proofs.words.after_word.Statement.{statement}
 use Rattle.text.proofs.words.after_word.Tie as tie
-use Rattle.text.proofs.words.after_word.Reads as reads
-use Rattle.text.proofs.words.after_word.Lts as lts
-use Rattle.text.proofs.words.after_blanks.Reads as after-blanks-reads
-use Rattle.text.proofs.words.leading.Reads as leading-reads
 
 after-blanks-requires : tie.Need-after-blanks-requires
 after-blanks-requires c κs = search needs

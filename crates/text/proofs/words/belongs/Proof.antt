@@ -5,8 +5,6 @@ use borrow.Author.Tests.{eq-eqb, ne-eqb}
 use Rattle.text.specs.Words.{belongsTo}
 use Rattle.text.proofs.words.belongs.Statement.{statement}
 use Rattle.text.proofs.words.belongs.Tie as tie
-use Rattle.text.proofs.words.belongs.Reads as reads
-use Rattle.text.proofs.words.belongs.Lts as lts
 
 enum-told : tie.Need-enum-told
 enum-told c = search needs

@@ -10,9 +10,6 @@ use Rattle.text.specs.Words.{belongsTo, leadingOf}
 use Rattle.text.proofs.Scanning.{one-more, no-more, at-end}
 use Rattle.text.proofs.words.leading.Statement.{statement}
 use Rattle.text.proofs.words.leading.Tie as tie
-use Rattle.text.proofs.words.leading.Reads as reads
-use Rattle.text.proofs.words.leading.Lts as lts
-use Rattle.text.proofs.words.belongs.Reads as belongs-reads
 
 abbrev Inv-loop : tie.InvT-loop
 Inv-loop s class i₀ i = (i ≤ length s) × (leadingOf (belongsTo class) s ≡ i + leadingOf (belongsTo class) (drop i s))
