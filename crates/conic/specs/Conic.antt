@@ -1,0 +1,71 @@
+-- One step of the Rust's push_conic: which conics are a line, when a conic is flat enough for one quad, and how it is halved.
+-- Each float operation of binary32 is rounded once, in the order of the Rust. Definitions only.
+use mathlib.Core.Bool.{Bool, true, false, cond, not, _||_}
+use lib.Ieee.{Float, binary32, ofBits, add, sub, mul, div, lt, le}
+use lib.Ieee.Scale.{finite}
+use Rattle.ieee.specs.Basic.{absOf}
+use Rattle.ieee.specs.Sqrt.{sqrtOf}
+use Rattle.geometry.specs.declared.Point.{Point}
+use Rattle.geometry.specs.Point.{one, addOf, subOf, scaleOf, shrinkOf, lengthOf, finitePoint}
+use Rattle.conic.specs.declared.Conic.{Conic}
+use Rattle.conic.specs.declared.Halves.{Halves}
+use Rattle.conic.specs.declared.Lowered.{Lowered}
+use Rattle.conic.specs.declared.Lowered.the-variants.{Line, Curve}
+
+-- 0.0, 2.0, 0.5, 0.25 and 1e-3
+abbrev zero : Float
+zero = ofBits binary32 0
+
+abbrev two : Float
+two = ofBits binary32 0x4000_0000
+
+abbrev half : Float
+half = ofBits binary32 0x3f00_0000
+
+abbrev quarter : Float
+quarter = ofBits binary32 0x3e80_0000
+
+abbrev thousandth : Float
+thousandth = ofBits binary32 0x3a83_126f
+
+-- a weight not finite or at most 0, or a control or target not finite; the pen, c .from, is not tested
+unfoldable pub isLine : Conic → Bool
+isLine c = not (finite (c .weight)) || le (c .weight) zero || not (finitePoint (c .ctrl)) || not (finitePoint (c .to))
+
+-- one line to the target, or the curve itself
+unfoldable pub lowerOf : Conic → Lowered
+lowerOf c = cond (isLine c) (Line (c .to)) (Curve c)
+
+-- the conic's point at its middle parameter
+unfoldable pub conicMid : Conic → Point
+conicMid c =
+    let sum = addOf (addOf (c .from) (scaleOf (c .ctrl) (mul binary32 two (c .weight)))) (c .to) in
+    shrinkOf sum (mul binary32 two (add binary32 one (c .weight)))
+
+-- the same of the quad with its control and target
+unfoldable pub quadMid : Conic → Point
+quadMid c =
+    let sum = addOf (addOf (c .from) (scaleOf (c .ctrl) two)) (c .to) in
+    scaleOf sum quarter
+
+-- flat enough for one quad: the weight is near 1, or the two middles are near each other, measured by a chord above 0
+unfoldable pub flatOf : Conic → Bool
+flatOf c =
+    cond (le (absOf (sub binary32 (c .weight) one)) thousandth) true
+    (let chord = lengthOf (subOf (c .to) (c .from)) in
+    cond (lt zero chord) (le (lengthOf (subOf (conicMid c) (quadMid c))) (mul binary32 thousandth chord)) false)
+
+-- both halves, by de Casteljau's construction for a rational quadratic
+unfoldable pub splitOf : Conic → Halves
+splitOf c =
+    let scale = div binary32 one (add binary32 one (c .weight)) in
+    let weighted = scaleOf (c .ctrl) (c .weight) in
+    let left = scaleOf (addOf (c .from) weighted) scale in
+    let right = scaleOf (addOf weighted (c .to)) scale in
+    let sum = addOf (addOf (c .from) (scaleOf (c .ctrl) (mul binary32 two (c .weight)))) (c .to) in
+    let mid = scaleOf sum (mul binary32 half scale) in
+    let weight = sqrtOf binary32 (mul binary32 (add binary32 one (c .weight)) half) in
+    record {
+      left = record { from = c .from; ctrl = left; to = mid; weight = weight };
+      right = record { from = mid; ctrl = right; to = c .to; weight = weight };
+    }

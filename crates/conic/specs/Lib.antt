@@ -1,0 +1,3 @@
+pub mod Conic
+pub mod Halving
+pub mod Spans

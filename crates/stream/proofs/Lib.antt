@@ -1,0 +1,4 @@
+-- Laws of putting elements behind the held ones.
+pub mod Put
+pub mod Tests
+pub mod Push
