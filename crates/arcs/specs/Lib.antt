@@ -1,0 +1,3 @@
+pub mod Conics
+pub mod Circle
+pub mod Placement

@@ -1,0 +1,183 @@
+// What the outline draws of an octant, in the octant's own space, and where a point of it is placed: two conics for
+// the superellipse arc, and the four points of a cubic for the circular one.
+// Binary32 throughout, every operation rounded once, with the Rust's names and in its order.
+ghost use mathlib.Core.Path.{_≡_};
+ghost use Prim.Native.Nat.{_<_};
+ghost use Rattle.arcs.specs.Conics.{conicAt, cappedDegree, superellipseConicFactorsOf, intersectionOf, superellipseConicsOf};
+ghost use Rattle.arcs.specs.Circle.{circularArcPointsOf};
+ghost use Rattle.arcs.specs.Placement.{flippedOf, applyOf};
+use geometry::Point;
+use octant::Octant;
+
+// Normalized conic weights for the degrees 2 to 14.
+const CONIC_TABLE: [[f32; 2]; 13] = [
+    [0.7078, 8.3194],
+    [0.7895, 2.4523],
+    [0.8379, 1.8528],
+    [0.8701, 1.6891],
+    [0.8932, 1.5806],
+    [0.9107, 1.5043],
+    [0.9244, 1.4470],
+    [0.9355, 1.4037],
+    [0.9448, 1.3701],
+    [0.9526, 1.3431],
+    [0.9594, 1.3212],
+    [0.9653, 1.3032],
+    [0.9705, 1.2880],
+];
+
+const STEP: f32 = 1.0;
+
+const MIN_N: f32 = 2.0;
+
+pub struct ConicFactors {
+    pub weight1: f32,
+    pub weight2: f32,
+    pub yh_proportion: f32,
+}
+
+// Two conics, from a on the flat side to h with the control c1, and on to j, where the circle starts, with the control c2.
+pub struct SuperellipseConics {
+    pub c1: Point,
+    pub h: Point,
+    pub weight1: f32,
+    pub c2: Point,
+    pub j: Point,
+    pub weight2: f32,
+    pub a: Point,
+}
+
+// The map from an octant's own space out to the shape's.
+pub struct Placement {
+    pub offset: Point,
+    pub scale: Point,
+    pub octant_offset: Point,
+    pub flip: bool,
+}
+
+fn conic(row: usize, column: usize) -> f32
+    requires { ⌜ (row < 13) × (column < 2) ⌝ }
+    ensures { λ r. ⌜ r ≡ conicAt row column ⌝ }
+{
+    CONIC_TABLE[row][column]
+}
+
+// A degree is capped at the table's last, and not raised to its first.
+fn capped_degree(n: f32) -> f32
+    ensures { λ r. ⌜ r ≡ cappedDegree n ⌝ }
+{
+    let max_n = MIN_N + 12.0 * STEP;
+    if n >= max_n {
+        return max_n;
+    }
+    n
+}
+
+// Only the right-hand term of each interpolation is multiplied by the root or by xj_over_a: the weights drop back to
+// the table's at each whole degree.
+pub fn superellipse_conic_factors(n: f32, xj_over_a: f32) -> ConicFactors
+    ensures { λ r. ⌜ r ≡ superellipseConicFactorsOf n «xj_over_a» ⌝ }
+{
+    let capped = capped_degree(n);
+    let steps = ieee::clamp((capped - MIN_N) / STEP, 0.0, 12.0);
+    let left = octant::left_row(steps, 11);
+    let frac = steps - left as f32;
+    let yh_proportion = ieee::sqrt(capped);
+    let weight1 = (1.0 - frac) * conic(left, 0) + frac * conic(left + 1, 0) * yh_proportion;
+    let weight2 = (1.0 - frac) * conic(left, 1) + frac * conic(left + 1, 1) * xj_over_a;
+    ConicFactors {
+        weight1,
+        weight2,
+        yh_proportion,
+    }
+}
+
+// The intersection of two lines, each given by a point and a slope.
+pub fn intersection(p1: Point, k1: f32, p2: Point, k2: f32) -> Point
+    ensures { λ r. ⌜ r ≡ intersectionOf p1 k1 p2 k2 ⌝ }
+{
+    if ieee::abs(k1 - k2) < octant::CLOSE_ENOUGH {
+        return geometry::shrink(geometry::add(p1, p2), 2.0);
+    }
+    let x = (k1 * p1.x - k2 * p2.x + p2.y - p1.y) / (k1 - k2);
+    Point {
+        x,
+        y: k1 * (x - p1.x) + p1.y,
+    }
+}
+
+pub fn superellipse_conics(param: Octant, yj_over_a: f32) -> SuperellipseConics
+    ensures { λ r. ⌜ r ≡ superellipseConicsOf param «yj_over_a» ⌝ }
+{
+    let n = param.se_n;
+    let a = Point {
+        x: 0.0,
+        y: param.se_a,
+    };
+    let j = param.circle_start;
+    let f = superellipse_conic_factors(n, j.x / param.se_a);
+    let yh_over_a = (1.0 * f.yh_proportion + yj_over_a) / (f.yh_proportion + 1.0);
+    let h = Point {
+        x: exponential::pow(1.0 - exponential::pow(yh_over_a, n), 1.0 / n) * param.se_a,
+        y: yh_over_a * param.se_a,
+    };
+    let k_a = 0.0;
+    let k_j = -exponential::pow(j.x / j.y, n - 1.0);
+    let k_h = -exponential::pow(h.x / h.y, n - 1.0);
+    SuperellipseConics {
+        c1: intersection(a, k_a, h, k_h),
+        h,
+        weight1: f.weight1,
+        c2: intersection(h, k_h, j, k_j),
+        j,
+        weight2: f.weight2,
+        a,
+    }
+}
+
+// The circular arc as a cubic: start, two controls, end.
+pub fn circular_arc_points(param: Octant) -> [Point; 4]
+    ensures { λ r. ⌜ r ≡ circularArcPointsOf param ⌝ }
+{
+    let start = param.circle_start;
+    let start_vector = geometry::sub(start, param.circle_center);
+    let turn = trigonometry::sin_cos(-param.circle_max_angle);
+    let end_vector = Point {
+        x: start_vector.x * turn.cos - start_vector.y * turn.sin,
+        y: start_vector.x * turn.sin + start_vector.y * turn.cos,
+    };
+    let circle_end = geometry::add(param.circle_center, end_vector);
+    let start_tangent = geometry::normalize(Point {
+        x: start_vector.y,
+        y: -start_vector.x,
+    });
+    let end_tangent = geometry::normalize(Point {
+        x: -end_vector.y,
+        y: end_vector.x,
+    });
+    let bezier_factor = trigonometry::tan(param.circle_max_angle / 4.0) * 4.0 / 3.0;
+    let radius = geometry::length(start_vector);
+    let first = geometry::scale(geometry::scale(start_tangent, bezier_factor), radius);
+    let second = geometry::scale(geometry::scale(end_tangent, bezier_factor), radius);
+    let control1 = geometry::add(start, first);
+    let control2 = geometry::add(circle_end, second);
+    [start, control1, control2, circle_end]
+}
+
+fn flipped(flip: bool, p: Point) -> Point
+    ensures { λ r. ⌜ r ≡ flippedOf flip p ⌝ }
+{
+    if flip {
+        return Point { x: p.y, y: p.x };
+    }
+    p
+}
+
+impl Placement {
+    pub fn apply(self, p: Point) -> Point
+        ensures { λ r. ⌜ r ≡ applyOf self p ⌝ }
+    {
+        let own = geometry::add(self.octant_offset, flipped(self.flip, p));
+        geometry::add(self.offset, geometry::mul(self.scale, own))
+    }
+}

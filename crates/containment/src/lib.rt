@@ -1,0 +1,112 @@
+// Whether a shape contains a point, by the curve itself. It refuses nothing: a NaN follows IEEE comparison.
+// Binary32 throughout, every operation rounded once, with the Rust's names and in its order.
+ghost use mathlib.Core.Path.{_≡_};
+ghost use Rattle.containment.specs.Contains.{octantContainsOf, within, squareContains, roundContains, squareCorner, normContains, cornerContainsOf, containsOf};
+use geometry::Point;
+use octant::Octant;
+use quadrant::Quadrant;
+use shape::RoundSuperellipse;
+
+// Whether p is inside the octant's arc; true for any point outside the octant.
+pub fn octant_contains(param: Octant, p: Point) -> bool
+    ensures { λ r. ⌜ r ≡ octantContainsOf param p ⌝ }
+{
+    if p.x < 0.0 {
+        return true;
+    }
+    if p.y < 0.0 {
+        return true;
+    }
+    if p.y < p.x {
+        return true;
+    }
+    if p.x <= param.circle_start.x {
+        let p_se = geometry::shrink(p, param.se_a);
+        return exponential::pow(p_se.x, param.se_n) + exponential::pow(p_se.y, param.se_n) <= 1.0;
+    }
+    let circle_radius = geometry::distance_squared(param.circle_start, param.circle_center);
+    geometry::length_squared(geometry::sub(p, param.circle_center)) < circle_radius
+}
+
+// A square corner owns its top and left borders, where the scale is negative, but not its bottom and right ones.
+fn is_within(delta: f32, scale: f32) -> bool
+    ensures { λ r. ⌜ r ≡ within delta scale ⌝ }
+{
+    if delta > 0.0 {
+        return true;
+    }
+    delta == 0.0 && scale < 0.0
+}
+
+fn square_contains(param: Quadrant, norm_point: Point) -> bool
+    ensures { λ r. ⌜ r ≡ squareContains param «norm_point» ⌝ }
+{
+    let x_delta = param.right.offset.x + param.right.se_a - norm_point.x;
+    let y_delta = param.top.offset.y + param.top.se_a - norm_point.y;
+    is_within(x_delta, param.signed_scale.x) && is_within(y_delta, param.signed_scale.y)
+}
+
+fn round_contains(param: Quadrant, norm_point: Point) -> bool
+    ensures { λ r. ⌜ r ≡ roundContains param «norm_point» ⌝ }
+{
+    let from_top = geometry::sub(norm_point, param.top.offset);
+    let from_right = geometry::sub(norm_point, param.right.offset);
+    let flipped = Point {
+        x: from_right.y,
+        y: from_right.x,
+    };
+    octant_contains(param.top, from_top) && octant_contains(param.right, flipped)
+}
+
+// A degree that is a NaN is round.
+fn is_square(param: Quadrant) -> bool
+    ensures { λ r. ⌜ r ≡ squareCorner param ⌝ }
+{
+    if param.top.se_n < 2.0 {
+        return true;
+    }
+    param.right.se_n < 2.0
+}
+
+fn norm_contains(param: Quadrant, norm_point: Point) -> bool
+    ensures { λ r. ⌜ r ≡ normContains param «norm_point» ⌝ }
+{
+    if is_square(param) {
+        return square_contains(param, norm_point);
+    }
+    round_contains(param, norm_point)
+}
+
+pub fn corner_contains(param: Quadrant, p: Point, check_quadrant: bool) -> bool
+    ensures { λ r. ⌜ r ≡ cornerContainsOf param p «check_quadrant» ⌝ }
+{
+    let norm_point = geometry::div(geometry::sub(p, param.offset), param.signed_scale);
+    if check_quadrant {
+        if norm_point.x < 0.0 {
+            return true;
+        }
+        if norm_point.y < 0.0 {
+            return true;
+        }
+        return norm_contains(param, norm_point);
+    }
+    norm_contains(param, geometry::abs(norm_point))
+}
+
+pub fn contains(shape: RoundSuperellipse, p: Point) -> bool
+    ensures { λ r. ⌜ r ≡ containsOf shape p ⌝ }
+{
+    if shape.all_corners_same {
+        return corner_contains(shape.top_right, p, false);
+    }
+    if corner_contains(shape.top_right, p, true) {
+        if corner_contains(shape.bottom_right, p, true) {
+            if corner_contains(shape.bottom_left, p, true) {
+                return corner_contains(shape.top_left, p, true);
+            }
+            return false;
+        }
+        return false;
+    }
+    false
+}

@@ -1,0 +1,184 @@
+// One eighth of the outline, solved: a superellipse arc that hands over to a circular arc with the same tangent.
+// Binary32 throughout, every operation rounded once, with the Rust's names and in its order.
+ghost use mathlib.Core.Path.{_≡_};
+ghost use Prim.Native.Nat.{_<_};
+ghost use Rattle.octant.specs.Degree.{cornerAt, leftRowOf, tableStepsOf, nAndXjOf};
+ghost use Rattle.octant.specs.Octant.{circleCenterThroughOf, angleBetweenOf, computeOctantOf};
+use geometry::Point;
+
+// The radius up to which a corner is square.
+pub const CLOSE_ENOUGH: f32 = 1e-3;
+
+// 1 - cos(pi/4).
+const GAP_FACTOR: f32 = 0.292_893_22;
+
+const SQRT_2: f32 = 1.414_213_56;
+
+// The degree n and k_xJ, fitted against the ratio of side to radius: from 2.0 to 2.5 by 0.1, then to 5.0 by 0.5.
+const CORNER_TABLE: [[f32; 2]; 11] = [
+    [2.000_000_0, 1.132_766_8],
+    [2.183_498, 1.203_119_2],
+    [2.338_886_6, 1.286_988],
+    [2.486_606, 1.363_519_4],
+    [2.622_266, 1.447_179_8],
+    [2.751_489_9, 1.533_858_2],
+    [3.362_982_7, 1.982_882_8],
+    [4.086_499, 2.238_118_5],
+    [4.854_811, 2.475_634_6],
+    [5.629_455_5, 2.729_486],
+    [6.430_238, 2.980_204],
+];
+
+const MIN_RATIO: f32 = 2.00;
+
+const FIRST_STEP_INVERSE: f32 = 10.0;
+
+const FIRST_MAX_RATIO: f32 = 2.50;
+
+const FIRST_NUM_RECORDS: f32 = 6.0;
+
+const SECOND_STEP_INVERSE: f32 = 2.0;
+
+const SECOND_MAX_RATIO: f32 = 5.00;
+
+const THIRD_N_SLOPE: f32 = 1.559_599_4;
+
+const THIRD_KXJ_SLOPE: f32 = 0.522_807_2;
+
+// One eighth of the outline, in the space of a corner with equal radii. A degree below 2 marks a square corner.
+pub struct Octant {
+    pub offset: Point,
+    pub se_a: f32,
+    pub se_n: f32,
+    pub circle_start: Point,
+    pub circle_center: Point,
+    pub circle_max_angle: f32,
+}
+
+// The superellipse's degree, and where its arc ends as a part of the half-extent.
+pub struct NAndXj {
+    pub n: f32,
+    pub xj_over_a: f32,
+}
+
+fn corner(row: usize, column: usize) -> f32
+    requires { ⌜ (row < 11) × (column < 2) ⌝ }
+    ensures { λ r. ⌜ r ≡ cornerAt row column ⌝ }
+{
+    CORNER_TABLE[row][column]
+}
+
+// The whole part of steps, found by comparisons, but at most last; 0 for a NaN.
+pub fn left_row(steps: f32, last: u8) -> usize
+    ensures { λ r. ⌜ r ≡ leftRowOf steps last ⌝ }
+{
+    let end = last as usize;
+    let mut left = 0;
+    while left < end {
+        if steps >= (left + 1) as f32 {
+            left += 1;
+        } else {
+            return left;
+        }
+    }
+    left
+}
+
+// Where a ratio stands among the rows.
+fn table_steps(ratio: f32) -> f32
+    ensures { λ r. ⌜ r ≡ tableStepsOf ratio ⌝ }
+{
+    if ratio < FIRST_MAX_RATIO {
+        return (ratio - MIN_RATIO) * FIRST_STEP_INVERSE;
+    }
+    (ratio - FIRST_MAX_RATIO) * SECOND_STEP_INVERSE + FIRST_NUM_RECORDS - 1.0
+}
+
+// The degree n and xJ/a for a ratio of side to radius.
+pub fn n_and_xj(ratio: f32) -> NAndXj
+    ensures { λ r. ⌜ r ≡ nAndXjOf ratio ⌝ }
+{
+    if ratio > SECOND_MAX_RATIO {
+        let n = THIRD_N_SLOPE * (ratio - SECOND_MAX_RATIO) + corner(10, 0);
+        let k_xj = THIRD_KXJ_SLOPE * (ratio - SECOND_MAX_RATIO) + corner(10, 1);
+        return NAndXj {
+            n,
+            xj_over_a: 1.0 - 1.0 / k_xj,
+        };
+    }
+    let steps = table_steps(ieee::clamp(ratio, MIN_RATIO, SECOND_MAX_RATIO));
+    let left = left_row(steps, 9);
+    let frac = steps - left as f32;
+    let n = (1.0 - frac) * corner(left, 0) + frac * corner(left + 1, 0);
+    let k_xj = (1.0 - frac) * corner(left, 1) + frac * corner(left + 1, 1);
+    NAndXj {
+        n,
+        xj_over_a: 1.0 - 1.0 / k_xj,
+    }
+}
+
+// The center of the circle of radius r through both a and b.
+pub fn circle_center_through(a: Point, b: Point, r: f32) -> Point
+    ensures { λ c. ⌜ c ≡ circleCenterThroughOf a b r ⌝ }
+{
+    let a_to_b = geometry::sub(b, a);
+    let m = geometry::shrink(geometry::add(a, b), 2.0);
+    let c_to_m = Point {
+        x: -a_to_b.y,
+        y: a_to_b.x,
+    };
+    let distance_am = geometry::length(a_to_b) / 2.0;
+    let distance_cm = ieee::sqrt(r * r - distance_am * distance_am);
+    let unit = geometry::normalize(c_to_m);
+    geometry::sub(
+        m,
+        Point {
+            x: distance_cm * unit.x,
+            y: distance_cm * unit.y,
+        },
+    )
+}
+
+// The signed angle from one vector to another.
+pub fn angle_between(from: Point, to: Point) -> f32
+    ensures { λ r. ⌜ r ≡ angleBetweenOf from to ⌝ }
+{
+    trigonometry::atan2(to.y, to.x) - trigonometry::atan2(from.y, from.x)
+}
+
+pub fn compute_octant(center: Point, a: f32, radius: f32) -> Octant
+    ensures { λ r. ⌜ r ≡ computeOctantOf center a radius ⌝ }
+{
+    if radius <= CLOSE_ENOUGH {
+        return Octant {
+            offset: center,
+            se_a: a,
+            se_n: 0.0,
+            circle_start: Point { x: a, y: a },
+            circle_center: Point { x: 0.0, y: 0.0 },
+            circle_max_angle: 0.0,
+        };
+    }
+    let ratio = a * 2.0 / radius;
+    let g = GAP_FACTOR * radius;
+    let fit = n_and_xj(ratio);
+    let n = fit.n;
+    let xj = fit.xj_over_a * a;
+    let yj = exponential::pow(1.0 - exponential::pow(fit.xj_over_a, n), 1.0 / n) * a;
+    let tan_phij = exponential::pow(xj / yj, n - 1.0);
+    let d = (xj - tan_phij * yj) / (1.0 - tan_phij);
+    let r = (a - d - g) * SQRT_2;
+    let point_m = Point { x: a - g, y: a - g };
+    let point_j = Point { x: xj, y: yj };
+    let circle_center = circle_center_through(point_j, point_m, r);
+    let from = geometry::sub(point_m, circle_center);
+    let to = geometry::sub(point_j, circle_center);
+    Octant {
+        offset: center,
+        se_a: a,
+        se_n: n,
+        circle_start: point_j,
+        circle_center,
+        circle_max_angle: angle_between(from, to),
+    }
+}
