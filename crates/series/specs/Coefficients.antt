@@ -1,8 +1,10 @@
 -- The coefficients of document 01's series: two families of rounded quotients, and its H, which is Horner's scheme on the first of a family. Definitions only.
-use Prim.Native.Nat.{ℕ, zero, suc, _+_, _*_}
+use Prim.Native.Nat.{ℕ, zero, suc, _+_, _*_, _%_}
+use mathlib.Core.Bool.{cond}
 use mathlib.Core.List.{List, [], _∷_}
+use lib.Dec.{eqb}
 use lib.IntN.{pos}
-use lib.Ieee.{Float, binary64, div, ofInt}
+use lib.Ieee.{Float, binary64, neg, div, ofInt}
 use Rattle.series.specs.Horner.{hornerOf}
 
 abbrev pub factorial : ℕ → ℕ
@@ -20,6 +22,10 @@ oddReciprocal k = reciprocal (2 * k + 1)
 -- 1 / k!
 unfoldable pub factorialReciprocal : ℕ → Float
 factorialReciprocal k = reciprocal (factorial k)
+
+-- (-1)^k times c k: every other one negated
+unfoldable pub alternating : (ℕ → Float) → ℕ → Float
+alternating c k = cond (eqb (k % 2) 0) (c k) (neg (c k))
 
 -- c 0, c 1, .., n of them
 unfoldable pub terms : (ℕ → Float) → ℕ → List Float

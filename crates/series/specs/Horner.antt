@@ -4,7 +4,7 @@ use mathlib.Core.Bool.{false}
 use lib.IntN.{pos}
 use lib.Ieee.{Float, Format, fin, add, mul}
 
--- The coefficients stand from c_0 up: begin with the last, and for each below it, down to c_0, multiply by z and add it. No coefficients have the value 0.
+-- The coefficients stand from c_0 up: begin with the last, and for each below it, down to c_0, multiply by z and add it. The empty list has the value 0.
 unfoldable pub hornerOf : Format → List Float → Float → Float
 hornerOf f [] z = fin false 0 (pos 0)
 hornerOf f (c ∷ []) z = c

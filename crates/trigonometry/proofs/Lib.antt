@@ -1,0 +1,3 @@
+pub mod Specials
+pub mod Range
+pub mod Order
