@@ -1,20 +1,18 @@
 -- The six building calls: what each adds, when it is refused, and what it leaves in the record and in the buffers. Every public call's contract is an
 -- equation with `step`. Definitions only.
-use mathlib.Core.List.{List, [], _∷_, _++_, map}
+use mathlib.Core.List.{List, [], _∷_, _++_}
 use mathlib.Core.Bool.{Bool, true, false, cond}
 use Prim.Native.Nat.{ℕ, _+_}
 use lib.Ieee.{Float}
 use Rattle.geometry.specs.declared.Point.{Point}
 use Rattle.conic.specs.declared.Conic.{Conic}
-use Rattle.conic.specs.declared.Lowered.{Lowered}
-use Rattle.conic.specs.declared.Lowered.the-variants as lowered
 use Rattle.conic.specs.Conic.{lowerOf}
-use Rattle.conic.specs.Halving.{Piece, piecesOf, wordOf}
 use Rattle.stream.specs.declared.Builder.{Builder}
 use Rattle.stream.specs.declared.Element.{Element}
 use Rattle.stream.specs.declared.Element.the-variants.{Move, Line, Quad, Cubic, Close}
 use Rattle.stream.specs.declared.Need.{Need}
 use Rattle.stream.specs.Stream.{State, state, origin, isEmpty, badRecord, hasRoom, badState, roomFor, pushAll}
+use Rattle.lowering.specs.Entries.{Entry, plain, elementsOf, jointWord, loweredOf}
 use Rattle.builder.specs.declared.Call.{Call}
 use Rattle.builder.specs.declared.Call.the-variants as call
 use Rattle.builder.specs.declared.Built.{Built}
@@ -23,35 +21,6 @@ use Rattle.builder.specs.declared.ConicBuilt.{ConicBuilt}
 use Rattle.builder.specs.declared.ConicBuilt.the-variants as conicBuilt
 
 -- ---- what a call adds
-
--- an element as a call adds it: by itself, or as the quad of a conic's piece, with its span
-pub data Entry : Type 0 where
-  plain : Element → Entry
-  piece : Piece → Entry
-
-abbrev pub elementOf : Entry → Element
-elementOf (plain k) = k
-elementOf (piece p) = Quad (p .quad .ctrl) (p .quad .to)
-
-unfoldable pub elementsOf : List Entry → List Element
-elementsOf [] = []
-elementsOf (e ∷ es) = elementOf e ∷ elementsOf es
-
--- the quads of a conic's pieces
-abbrev pub quadsOf : List Piece → List Element
-quadsOf ps = elementsOf (map piece ps)
-
--- the pieces among the entries, and the joint word that marks where they start: 0 where there are none
-abbrev pub consPiece : Entry → List Piece → List Piece
-consPiece (plain k) ps = ps
-consPiece (piece p) ps = p ∷ ps
-
-unfoldable pub piecesIn : List Entry → List Piece
-piecesIn [] = []
-piecesIn (e ∷ es) = consPiece e (piecesIn es)
-
-abbrev pub jointWord : List Entry → ℕ
-jointWord es = wordOf (piecesIn es)
 
 -- on a path with no element, first a move to (0, 0)
 abbrev pub opening : Bool → List Entry
@@ -62,11 +31,6 @@ opening false = []
 abbrev pub closing : Bool → List Entry
 closing true = []
 closing false = plain Close ∷ []
-
--- a conic as the line or the pieces that it is lowered to
-unfoldable pub loweredOf : Lowered → List Entry
-loweredOf (lowered.Line p) = plain (Line p) ∷ []
-loweredOf (lowered.Curve c) = map piece (piecesOf c)
 
 -- a conic starts at the pen, on a path with no element at (0, 0)
 abbrev pub conicFrom : Bool → Point → Point → Point → Float → Conic

@@ -4,9 +4,9 @@ ghost use mathlib.Core.Path.{_≡_};
 ghost use mathlib.Core.List.{_++_};
 ghost use Prim.Native.Nat.{_+_, _-_, _*_, _^_, _<_, _≤_};
 ghost use lib.ListN.{length};
-ghost use Rattle.conic.specs.Halving.{halve, wordOf};
-ghost use Rattle.stream.specs.Stream.{state, isEmpty, push, pushAll, needOf, Fits};
-ghost use Rattle.builder.specs.Calls.{elementsOf, quadsOf, loweredOf, jointWord, conicFrom, openedNeed, opening, closing, entriesOf, admitOf, withWord, outcomeOf, conicOutcomeOf, step};
+ghost use Rattle.stream.specs.Stream.{state, isEmpty, pushAll, needOf};
+ghost use Rattle.lowering.specs.Entries.{elementsOf, loweredOf};
+ghost use Rattle.builder.specs.Calls.{conicFrom, openedNeed, opening, closing, entriesOf, admitOf, withWord, outcomeOf, conicOutcomeOf, step};
 use conic::Conic;
 use conic::Lowered;
 use conic::MAX_DEPTH;
@@ -37,12 +37,6 @@ pub enum ConicBuilt {
     Done(Builder, u64),
     BadRecord(Builder),
     NoRoom(Builder),
-}
-
-// The record after a conic, and its joint word.
-pub struct Written {
-    pub builder: Builder,
-    pub word: u64,
 }
 
 // A conic that starts at the pen: on an empty builder at (0, 0), whatever the record's pen.
@@ -164,69 +158,6 @@ fn open(b: Builder, verbs: &mut [u8], points: &mut [f32]) -> Builder
     b
 }
 
-// The quads of a conic behind the held elements, for which there is room, and the bits where they start.
-fn push_conic(
-    b: Builder,
-    verbs: &mut [u8],
-    points: &mut [f32],
-    c: Conic,
-    depth: usize,
-    start: usize,
-) -> Written
-    requires { ⌜ (depth ≤ 6) × (start + 2 ^ depth ≤ 64) × (b .verbs + length (halve depth c start) ≤ length (now verbs)) × (2 * (b .points + 2 * length (halve depth c start)) ≤ length (now points)) ⌝ }
-    ensures { λ r. ⌜ state (r .builder) (now (verbs .exit)) (now (points .exit)) ≡ pushAll (state b (now (verbs .entry)) (now (points .entry))) (quadsOf (halve depth c start)) ⌝ }
-    ensures { λ r. ⌜ r .word ≡ wordOf (halve depth c start) ⌝ }
-{
-    if depth == 0 {
-        return push_piece(b, verbs, points, c, start);
-    }
-    if conic::is_flat(c) {
-        return push_piece(b, verbs, points, c, start);
-    }
-    let d = depth - 1;
-    let h = conic::split(c);
-    let left = h.left;
-    let right = h.right;
-    let l = push_conic(b, verbs, points, left, d, start);
-    let lb = l.builder;
-    let r = push_conic(lb, verbs, points, right, d, start + (1 << d));
-    let rb = r.builder;
-    Written {
-        builder: rb,
-        word: l.word + r.word,
-    }
-}
-
-fn push_piece(b: Builder, verbs: &mut [u8], points: &mut [f32], c: Conic, start: usize) -> Written
-    requires { ⌜ (start < 64) × (b .verbs < length (now verbs)) × (2 * (b .points + 2) ≤ length (now points)) ⌝ }
-    ensures { λ r. ⌜ state (r .builder) (now (verbs .exit)) (now (points .exit)) ≡ push (state b (now (verbs .entry)) (now (points .entry))) (Element.Quad (c .ctrl) (c .to)) ⌝ }
-    ensures { λ r. ⌜ r .word ≡ 2 ^ start ⌝ }
-{
-    let b2 = stream::push_quad(b, verbs, points, c.ctrl, c.to);
-    Written {
-        builder: b2,
-        word: 1 << start,
-    }
-}
-
-// What a conic is lowered to, behind the held elements, for which there is room.
-pub fn push_lowered(b: Builder, verbs: &mut [u8], points: &mut [f32], l: Lowered) -> Written
-    requires { ⌜ Fits b (now verbs) (now points) (elementsOf (loweredOf l)) ⌝ }
-    ensures { λ r. ⌜ state (r .builder) (now (verbs .exit)) (now (points .exit)) ≡ pushAll (state b (now (verbs .entry)) (now (points .entry))) (elementsOf (loweredOf l)) ⌝ }
-    ensures { λ r. ⌜ r .word ≡ jointWord (loweredOf l) ⌝ }
-{
-    match l {
-        Lowered::Line(p) => {
-            let b2 = stream::push_line(b, verbs, points, p);
-            Written {
-                builder: b2,
-                word: 0,
-            }
-        }
-        Lowered::Curve(c) => push_conic(b, verbs, points, c, MAX_DEPTH, 0),
-    }
-}
-
 pub fn move_to(b: Builder, verbs: &mut [u8], points: &mut [f32], p: Point) -> Built
     ensures { λ r. ⌜ outcomeOf r (now (verbs .exit)) (now (points .exit)) ≡ step (state b (now (verbs .entry)) (now (points .entry))) (Call.MoveTo p) ⌝ }
 {
@@ -301,7 +232,7 @@ pub fn conic_to(
         return with_word(a, 0);
     };
     let o = open(b, verbs, points);
-    let w = push_lowered(o, verbs, points, l);
+    let w = lowering::push_lowered(o, verbs, points, l);
     let wb = w.builder;
     ConicBuilt::Done(wb, w.word)
 }

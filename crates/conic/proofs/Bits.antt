@@ -10,8 +10,8 @@ use lib.Dec.{eqb}
 use lib.Pow.{pow-pos, pow-add, pow-lt, shr-shr, high}
 use borrow.Author.Tests.{eq-eqb, ne-eqb}
 use Rattle.conic.specs.Halving.{Piece, wordOf}
-use Rattle.conic.specs.Spans.{Tiles, Dyadic, AllDyadic, bitOf, startsAt}
-use Rattle.conic.proofs.Tiling.{positive, none-before, Multiple, tiles-multiple}
+use Rattle.conic.specs.Spans.{Tiles, bitOf, startsAt}
+use Rattle.conic.proofs.Tiling.{Sized, none-before, Multiple, tiles-multiple}
 
 -- a bit below a multiple of 2 ^ h, and one above
 bit-low : (lo v h k : ℕ) → k < h → bitOf (lo + v * 2 ^ h) k ≡ bitOf lo k
@@ -64,10 +64,10 @@ first-go a h k ps m l none later (no high) =
     ap₂ (λ (x y : ℕ). bitOf x y) (m .is ∙ sym (zero-add (m .times * 2 ^ h))) e ∙ bit-high 0 (m .times) h j (pow-pos h) in
     up ∙ sym down ∙ later ∙ sym (ap (λ (b : Bool). cond (b || startsAt k ps) 1 0) (ne-eqb k a (λ q. omega arith)))
 
-pub marks : (a b k : ℕ) (ps : List Piece) → Tiles a ps b → AllDyadic ps → bitOf (wordOf ps) k ≡ cond (startsAt k ps) 1 0
-unfolding Tiles AllDyadic wordOf startsAt
+pub marks : (a b k : ℕ) (ps : List Piece) → Tiles a ps b → Sized ps → bitOf (wordOf ps) k ≡ cond (startsAt k ps) 1 0
+unfolding Tiles Sized wordOf startsAt
 marks a b k [] t d = zero-bit k
 marks a b k (p ∷ ps) t d =
     let i = p .span .start in
     let h = a + p .span .size in
-    first-go i h k ps (tiles-multiple h b ps (t .1) (d .1)) (omega (arith, t .0, positive p (d .0))) (none-before h b k ps (t .1) (d .1)) (marks h b k ps (t .1) (d .1)) (decLt k h)
+    first-go i h k ps (tiles-multiple h b ps (t .1) (d .1)) (omega (arith, t .0, d .0)) (none-before h b k ps (t .1) (d .1)) (marks h b k ps (t .1) (d .1)) (decLt k h)

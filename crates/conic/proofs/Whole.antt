@@ -2,18 +2,18 @@
 use mathlib.Core.Path.{_≡_, refl, sym, ap, subst, _∙_}
 use mathlib.Core.List.{List, [], _∷_, _++_}
 use Prim.Native.Nat.{ℕ, zero, suc, _+_, _*_, _^_, _≤_, _<_}
-use native.Mathlib.Nat.{two-pow-succ, pow-suc, mul-assoc, mul-comm, add-mul, one-mul, zero-mul}
+use native.Mathlib.Nat.{two-pow-succ, pow-suc, mul-assoc, mul-comm, add-mul, one-mul}
 use native.Mathlib.Omega.{arith}
 use lib.ListN.{length}
 use lib.Dec.{lit<}
-use lib.Pow.{pow-mono}
+use lib.Pow.{pow-mono, pow-pos}
 use Rattle.geometry.specs.declared.Point.{Point}
 use Rattle.conic.specs.declared.Conic.{Conic}
 use Rattle.conic.specs.Conic.{splitOf}
-use Rattle.conic.specs.Halving.{Piece, pieceOf, halve, piecesOf}
+use Rattle.conic.specs.Halving.{Piece, pieceOf, halve, piecesOf, wordOf}
 use Rattle.conic.specs.Spans.{Tiles, Dyadic, AllDyadic, lastTarget, WholeConic}
 use Rattle.conic.proofs.Halving.{halve-ind}
-use Rattle.conic.proofs.Tiling.{tiles-append, dyadic-append, tiles-length, tiles-some, tiles-marked}
+use Rattle.conic.proofs.Tiling.{Sized, sized-append, tiles-append, dyadic-append, tiles-length, tiles-some, tiles-marked, tiles-word}
 use Rattle.conic.proofs.Bits.{marks}
 
 halve-tiles : (n : ℕ) (c : Conic) (start : ℕ) → Tiles start (halve n c start) (start + 2 ^ n)
@@ -31,11 +31,19 @@ halve-dyadic =
     (λ n c start l r hl hr m e. let f : start ≡ m * 2 * 2 ^ n = e ∙ ap (λ (x : ℕ). m * x) (pow-suc 2 n ∙ mul-comm (2 ^ n) 2) ∙ sym (mul-assoc m 2 (2 ^ n)) in
     dyadic-append l r (hl (m * 2) f) (hr (m * 2 + 1) (omega (arith, f, add-mul (m * 2) 1 (2 ^ n), one-mul (2 ^ n)))))
 
--- as many pieces as halvings allow, at most
-pub halve-few : (n : ℕ) (c : Conic) → n ≤ 6 → length (halve n c 0) ≤ 64
-halve-few n c h =
-    let k : 2 ^ n ≤ 2 ^ 6 = pow-mono h in
-    omega (arith, tiles-length 0 (0 + 2 ^ n) (halve n c 0) (halve-tiles n c 0) (halve-dyadic n c 0 0 (sym (zero-mul (2 ^ n)))))
+halve-sized : (n : ℕ) (c : Conic) (start : ℕ) → Sized (halve n c start)
+unfolding Sized
+halve-sized = halve-ind (λ n c start ps. Sized ps) (λ n c start. (pow-pos n, tt)) (λ n c start l r hl hr. sized-append l r hl hr)
+
+-- at most as many pieces as the span is long
+pub halve-few : (n : ℕ) (c : Conic) (start : ℕ) → length (halve n c start) ≤ 2 ^ n
+halve-few n c start = omega (arith, tiles-length start (start + 2 ^ n) (halve n c start) (halve-tiles n c start) (halve-sized n c start))
+
+-- the word lies below the span's end
+pub halve-word : (n : ℕ) (c : Conic) (start : ℕ) → start + 2 ^ n ≤ 64 → wordOf (halve n c start) < 2 ^ 64
+halve-word n c start h =
+    let k : 2 ^ (start + 2 ^ n) ≤ 2 ^ 64 = pow-mono h in
+    omega (arith, tiles-word start (start + 2 ^ n) (halve n c start) (halve-tiles n c start) (halve-sized n c start), pow-pos start)
 
 last-append : (p : Point) (xs ys : List Piece) → lastTarget p (xs ++ ys) ≡ lastTarget (lastTarget p xs) ys
 unfolding lastTarget
@@ -52,13 +60,13 @@ pub whole-conic : (c : Conic) → WholeConic c (piecesOf c)
 whole-conic c =
     let ps = piecesOf c in
     let t : Tiles 0 ps 64 = halve-tiles 6 c 0 in
-    let d : AllDyadic ps = halve-dyadic 6 c 0 0 refl in
+    let z : Sized ps = halve-sized 6 c 0 in
     record {
       some = tiles-some 0 64 ps t (lit< tt);
-      few = omega (arith, tiles-length 0 64 ps t d);
+      few = halve-few 6 c 0;
       tiles = t;
-      dyadic = d;
-      marks = λ k. marks 0 64 k ps t d;
+      dyadic = halve-dyadic 6 c 0 0 refl;
+      marks = λ k. marks 0 64 k ps t z;
       marked = tiles-marked 0 64 ps t (lit< tt);
       ends = halve-ends 6 c 0 (c .from);
     }

@@ -108,9 +108,9 @@ holding-push {s} {ks} k h hv hf =
         vroom = omega arith;
         froom = omega arith;
         verbs = take-grown (s .verbs) (s .builder .verbs) (length (ks ++ k ∷ [])) n (verbOf k ∷ []) (bytesOf ks) (omega (arith, h .many)) (h .verbs) (h .many) (omega (arith, h .many))
-        ∙ (ap (λ (r : List ℕ). bytesOf ks ++ r) (sym (bytes-one k)) ∙ sym (bytes-append ks (k ∷ [])));
+            ∙ (ap (λ (r : List ℕ). bytesOf ks ++ r) (sym (bytes-one k)) ∙ sym (bytes-append ks (k ∷ [])));
         floats = take-grown (s .floats) (2 * s .builder .points) (2 * sizesOf (ks ++ k ∷ [])) (2 * m) (floatsOf k) (allFloats ks) (omega (arith, h .size)) (h .floats) (omega (arith, h .size)) (omega (arith, h .size))
-        ∙ (ap (λ (r : List Float). allFloats ks ++ r) (sym (floats-one k)) ∙ sym (floats-append ks (k ∷ [])));
+            ∙ (ap (λ (r : List Float). allFloats ks ++ r) (sym (floats-one k)) ∙ sym (floats-append ks (k ∷ [])));
       };
     }
 

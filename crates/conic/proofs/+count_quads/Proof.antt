@@ -3,6 +3,7 @@ use mathlib.Core.List.{_++_}
 use Prim.Native.Nat.{ℕ, _+_, _-_, _^_, _<_, _≤_}
 use native.Mathlib.Omega.{arith}
 use lib.ListN.{length, length-append}
+use lib.Pow.{pow-mono}
 use borrow.Author.Needs.{needs}
 use borrow.Fn.Kinds.{In}
 use borrow.Fn.PlainCycle.{Measures, is, falls, and}
@@ -58,8 +59,10 @@ module _ (t : ℕ) where
   add-result c =
       let a = c .before .before .before .before .before .before .before .before .args in
       let h = c .before .before .before .before .split .result in
-      let d : a .depth - 1 ≤ 6 = omega (arith, c .before .before .before .before .before .before .before .before .pre) in
-      omega (arith, c .before .count-quads .ensures 0, c .count-quads2 .ensures 0, halve-few (a .depth - 1) (h .left) d, halve-few (a .depth - 1) (h .right) d)
+      let d = a .depth - 1 in
+      let h6 : d ≤ 6 = omega (arith, c .before .before .before .before .before .before .before .before .pre) in
+      let k : 2 ^ d ≤ 2 ^ 6 = pow-mono h6 in
+      omega (arith, c .before .count-quads .ensures 0, c .count-quads2 .ensures 0, halve-few d (h .left) 0, halve-few d (h .right) 0)
 
   returns-3 : lts.Need-returns-3 (claims t) (at t) reads.Post
   returns-3 c start =

@@ -1,0 +1,3 @@
+-- Laws of the opening move and of admission.
+pub mod Opening
+pub mod Admission

@@ -1,0 +1,3 @@
+-- Laws of entries, and of writing the pieces of a conic.
+pub mod Entries
+mod Writing

@@ -1,0 +1,66 @@
+use Rattle.lowering.proofs.Entries.{LoweredTo, lowered-line, lowered-curve}
+use Rattle.stream.proofs.Push.{push-all-one}
+use Rattle.stream.specs.Stream.{State, state, pushAll}
+use lib.Dec.{lit≤}
+use native.Mathlib.Omega.{arith}
+use mathlib.Core.Path.{sym, ap, _∙_}
+use borrow.Author.Needs.{needs}
+use Rattle.lowering.proofs.push_lowered.Statement.{statement}
+use Rattle.lowering.proofs.push_lowered.Tie as tie
+
+enum-known-l : tie.Need-enum-known-l
+enum-known-l c = search needs
+
+push-line-requires : tie.Need-push-line-requires
+push-line-requires c κs =
+    let h = lowered-line (c .before .before .before .before .before .before .before .args .l) _ (c .before .before .before .l .given .1) in
+    omega (arith, c .before .before .before .before .before .before .before .pre, h .many, h .size)
+
+enum-known-l-2 : tie.Need-enum-known-l-2
+enum-known-l-2 c = search needs
+
+push-conic-requires : tie.Need-push-conic-requires
+push-conic-requires c κs =
+    let h = lowered-curve (c .before .before .before .before .before .before .before .args .l) _ (c .before .before .before .l2 .given .1) in
+    (lit≤ tt, lit≤ tt, omega (arith, c .before .before .before .before .before .before .before .pre, h .many), omega (arith, c .before .before .before .before .before .before .before .pre, h .size))
+
+same-length : tie.Need-same-length
+same-length c = search needs
+
+same-length-2 : tie.Need-same-length-2
+same-length-2 c = search needs
+
+returns : tie.Need-returns
+returns c =
+    let a = c .before .before .before .before .before .before .before .before .before .before .before .before .args in
+    let s : State = state (a .b) (a .verbs .now) (a .points .now) in
+    let h = lowered-line (a .l) _ (c .before .before .before .before .before .before .before .before .l .given .1) in
+    (c .before .before .before .before .push-line .ensures ∙ sym (ap (pushAll s) (h .elements) ∙ push-all-one s _), sym (h .word))
+
+same-length-3 : tie.Need-same-length-3
+same-length-3 c = search needs
+
+same-length-4 : tie.Need-same-length-4
+same-length-4 c = search needs
+
+returns-2 : tie.Need-returns-2
+returns-2 c =
+    let a = c .before .before .before .before .before .before .before .before .before .before .before .before .args in
+    let s : State = state (a .b) (a .verbs .now) (a .points .now) in
+    let h = lowered-curve (a .l) _ (c .before .before .before .before .before .before .before .before .l2 .given .1) in
+    (c .before .before .before .before .push-conic .ensures .0 ∙ sym (ap (pushAll s) (h .elements)), c .before .before .before .before .push-conic .ensures .1 ∙ sym (h .word))
+
+pub push-lowered-spec : {M : Type 1} → statement M
+push-lowered-spec =
+    tie.close
+    (tie.spec
+    enum-known-l
+    push-line-requires
+    enum-known-l-2
+    push-conic-requires
+    same-length
+    same-length-2
+    returns
+    same-length-3
+    same-length-4
+    returns-2)

@@ -1,0 +1,42 @@
+-- What is added to a path: elements, and for the quads of a conic the pieces that halving left, each with its span. Definitions only.
+use mathlib.Core.List.{List, [], _∷_, map}
+use Prim.Native.Nat.{ℕ}
+use Rattle.conic.specs.declared.Lowered.{Lowered}
+use Rattle.conic.specs.declared.Lowered.the-variants as lowered
+use Rattle.conic.specs.Halving.{Piece, piecesOf, wordOf}
+use Rattle.stream.specs.declared.Element.{Element}
+use Rattle.stream.specs.declared.Element.the-variants.{Line, Quad}
+
+-- an element by itself, or as the quad of a conic's piece, with its span
+pub data Entry : Type 0 where
+  plain : Element → Entry
+  piece : Piece → Entry
+
+abbrev pub elementOf : Entry → Element
+elementOf (plain k) = k
+elementOf (piece p) = Quad (p .quad .ctrl) (p .quad .to)
+
+unfoldable pub elementsOf : List Entry → List Element
+elementsOf [] = []
+elementsOf (e ∷ es) = elementOf e ∷ elementsOf es
+
+-- the quads of a conic's pieces
+abbrev pub quadsOf : List Piece → List Element
+quadsOf ps = elementsOf (map piece ps)
+
+-- the pieces among the entries, and the joint word that marks where they start: 0 where there are none
+abbrev pub consPiece : Entry → List Piece → List Piece
+consPiece (plain k) ps = ps
+consPiece (piece p) ps = p ∷ ps
+
+unfoldable pub piecesIn : List Entry → List Piece
+piecesIn [] = []
+piecesIn (e ∷ es) = consPiece e (piecesIn es)
+
+abbrev pub jointWord : List Entry → ℕ
+jointWord es = wordOf (piecesIn es)
+
+-- a conic as the line or the pieces that it is lowered to
+unfoldable pub loweredOf : Lowered → List Entry
+loweredOf (lowered.Line p) = plain (Line p) ∷ []
+loweredOf (lowered.Curve c) = map piece (piecesOf c)
