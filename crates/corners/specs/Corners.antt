@@ -80,18 +80,18 @@ squareCalls param reverse scale =
     let next = nextOf param reverse in
     LineTo (addOf (param .offset) (mulOf scale corner)) ∷ LineTo (addOf (param .offset) (mulOf scale next)) ∷ []
 
--- the same for octants whose curves are given
-unfoldable pub solvedCalls : Quadrant → Curves → Curves → Bool → Point → List Call
-solvedCalls param top right reverse scale =
-    let fromTop = placementOf (param .top) (param .offset) scale false in
-    let fromRight = placementOf (param .right) (param .offset) scale true in
-    cond reverse (forwardsCalls fromRight right ++ backwardsCalls fromTop top) (forwardsCalls fromTop top ++ backwardsCalls fromRight right)
-
 unfoldable pub roundCalls : Quadrant → Bool → Point → List Call
 roundCalls param reverse scale =
     cond reverse
     (octantCalls (param .right) (param .offset) scale false true ++ octantCalls (param .top) (param .offset) scale true false)
     (octantCalls (param .top) (param .offset) scale false false ++ octantCalls (param .right) (param .offset) scale true true)
+
+-- a round corner, where the curves of its octants are given
+unfoldable pub solvedCalls : Quadrant → Curves → Curves → Bool → Point → List Call
+solvedCalls param top right reverse scale =
+    let fromTop = placementOf (param .top) (param .offset) scale false in
+    let fromRight = placementOf (param .right) (param .offset) scale true in
+    cond reverse (forwardsCalls fromRight right ++ backwardsCalls fromTop top) (forwardsCalls fromTop top ++ backwardsCalls fromRight right)
 
 -- add_quadrant
 unfoldable pub cornerCalls : Quadrant → Bool → Point → List Call

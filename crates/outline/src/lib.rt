@@ -1,0 +1,1 @@
+// The outline of a shape as a building call.
