@@ -2,8 +2,8 @@
 use mathlib.Core.List.{List, [], _∷_, _++_, flatten}
 use Rattle.geometry.specs.declared.Point.{Point}
 use Rattle.shape.specs.declared.RoundSuperellipse.{RoundSuperellipse}
-use Rattle.builder.specs.declared.Call.{Call}
-use Rattle.builder.specs.declared.Call.the-variants.{MoveTo, LineTo, ConicTo, CubicTo, Close}
+use Rattle.calls.specs.declared.Call.{Call}
+use Rattle.calls.specs.declared.Call.the-variants.{MoveTo, LineTo, ConicTo, CubicTo, Close}
 use Rattle.corners.specs.declared.ConicArc.{ConicArc}
 use Rattle.corners.specs.declared.CubicArc.{CubicArc}
 use Rattle.corners.specs.declared.Forwards.{Forwards}

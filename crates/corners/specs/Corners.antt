@@ -15,8 +15,8 @@ use Rattle.arcs.specs.Conics.{superellipseConicsOf}
 use Rattle.arcs.specs.Circle.{circularArcPointsOf}
 use Rattle.arcs.specs.Placement.{applyOf}
 use Rattle.arcs.specs.declared.Placement.{Placement}
-use Rattle.builder.specs.declared.Call.{Call}
-use Rattle.builder.specs.declared.Call.the-variants.{MoveTo, LineTo, ConicTo, CubicTo, Close}
+use Rattle.calls.specs.declared.Call.{Call}
+use Rattle.calls.specs.declared.Call.the-variants.{MoveTo, LineTo, ConicTo, CubicTo, Close}
 use Rattle.corners.specs.declared.Curves.{Curves}
 
 -- the degree test: a degree below 2 on either side makes the corner square; a NaN is not below

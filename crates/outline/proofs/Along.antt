@@ -11,8 +11,8 @@ use Rattle.stream.specs.Stream.{State, startOf, penOf, sizesOf, advanceOf, push
 use Rattle.stream.proofs.Push.{push-all-append, push-all-verbs, push-all-points, sizes-append}
 use Rattle.lowering.specs.Entries.{Entry, elementsOf}
 use Rattle.lowering.proofs.Entries.{elements-append}
-use Rattle.builder.specs.declared.Call.{Call}
-use Rattle.builder.specs.Calls.{entriesOf}
+use Rattle.calls.specs.declared.Call.{Call}
+use Rattle.calls.specs.Calls.{entriesOf}
 use Rattle.outline.specs.Entries.{startAfter, penAfter, entriesAlong, elementsAlong, pushCalls, RoomAlong}
 
 pub start-append : (s : Point) (ks js : List Element) → startAfter s (ks ++ js) ≡ startAfter (startAfter s ks) js

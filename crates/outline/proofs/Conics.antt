@@ -18,8 +18,8 @@ use Rattle.stream.specs.declared.Element.{Element}
 use Rattle.stream.specs.Stream.{sizesOf}
 use Rattle.lowering.specs.Entries.{elementsOf, quadsOf, loweredOf}
 use Rattle.lowering.proofs.Entries.{quads-length, quads-sizes}
-use Rattle.builder.specs.declared.Call.the-variants.{ConicTo}
-use Rattle.builder.specs.Calls.{entriesOf}
+use Rattle.calls.specs.declared.Call.the-variants.{ConicTo}
+use Rattle.calls.specs.Calls.{entriesOf}
 use Rattle.outline.specs.Entries.{startAfter, penAfter}
 
 quads-start : (s : Point) (ps : List Piece) → startAfter s (quadsOf ps) ≡ s

@@ -6,8 +6,8 @@ use Rattle.geometry.specs.declared.Point.{Point}
 use Rattle.stream.specs.declared.Element.{Element}
 use Rattle.stream.specs.Stream.{State, origin, startOf, penOf, pushAll, Fits}
 use Rattle.lowering.specs.Entries.{Entry, elementsOf}
-use Rattle.builder.specs.declared.Call.{Call}
-use Rattle.builder.specs.Calls.{entriesOf}
+use Rattle.calls.specs.declared.Call.{Call}
+use Rattle.calls.specs.Calls.{entriesOf}
 use Rattle.shape.specs.declared.RoundSuperellipse.{RoundSuperellipse}
 use Rattle.corners.specs.Calls.{outlineCalls}
 

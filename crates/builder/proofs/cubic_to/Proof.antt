@@ -1,47 +1,54 @@
+use Rattle.calls.proofs.Opened.{one-need, one-room, one-done, one-admitted, opened-refused, opened-counts}
+use Rattle.calls.specs.Calls.{entriesOf, step}
+use Rattle.lowering.specs.Entries.{plain}
+use Rattle.stream.specs.Stream.{State, state}
+use Rattle.stream.specs.declared.Element.the-variants.{Cubic}
+use native.Mathlib.Omega.{arith}
+use mathlib.Core.List.{[], _∷_}
+use mathlib.Core.Path.{_∙_}
 use borrow.Author.Needs.{needs}
 use Rattle.builder.proofs.cubic_to.Statement.{statement}
 use Rattle.builder.proofs.cubic_to.Tie as tie
-use Rattle.builder.proofs.cubic_to.Reads as reads
-use Rattle.builder.proofs.cubic_to.Lts as lts
-use Rattle.builder.proofs.admit.Reads as admit-reads
-use Rattle.builder.proofs.open.Reads as open-reads
-use Rattle.builder.proofs.opened_need.Reads as opened-need-reads
-use Rattle.stream.proofs.push_cubic.Reads as push-cubic-reads
 
--- src/lib.rt:280:49
 opened-need-requires : tie.Need-opened-need-requires
 opened-need-requires c κs = search needs
 
--- src/lib.rt:280:9
 admit-requires : tie.Need-admit-requires
 admit-requires c κs = search needs
 
 enum-told : tie.Need-enum-told
 enum-told c = search needs
 
--- src/lib.rt:282:9
 returns : tie.Need-returns
-returns c = ?
+unfolding step entriesOf
+returns c =
+    let a = c .before .before .before .before .before .args in
+    opened-refused (state (a .b) (a .verbs .now) (a .points .now)) (plain (Cubic (a .c0) (a .c1) (a .p)) ∷ []) _ _ (c .before .before .opened-need .ensures ∙ one-need (a .b) _) (c .before .admit .ensures) (c .match .keys2)
 
--- src/lib.rt:284:9
-open-requires : tie.Need-open-requires
-open-requires c κs = ?
+ensure-started-requires : tie.Need-ensure-started-requires
+ensure-started-requires c κs =
+    let a = c .before .before .before .before .before .before .before .before .args in
+    omega (arith, one-room (state (a .b) (a .verbs .now) (a .points .now)) (Cubic (a .c0) (a .c1) (a .p)) _ _ _ (c .before .before .before .before .before .opened-need .ensures) (c .before .before .before .before .admit .ensures) (c .before .before .enum-told .given .1))
 
--- src/lib.rt:285:17
 push-cubic-requires : tie.Need-push-cubic-requires
-push-cubic-requires c κs = ?
+push-cubic-requires c κs =
+    let a = c .before .before .before .before .before .before .before .before .before .before .before .before .before .before .before .args in
+    let s : State = state (a .b) (a .verbs .now) (a .points .now) in
+    let n = opened-counts s _ (c .before .before .before .before .before .before .ensure-started .ensures) in
+    omega (arith, one-room s (Cubic (a .c0) (a .c1) (a .p)) _ _ _ (c .before .before .before .before .before .before .before .before .before .before .before .before .opened-need .ensures) (c .before .before .before .before .before .before .before .before .before .before .before .admit .ensures) (c .before .before .before .before .before .before .before .before .before .enum-told .given .1), n .verbs, n .points, c .before .before .before .before .before .before .ensure-started .kept)
 
--- src/lib.rt:270:1
 same-length : tie.Need-same-length
 same-length c = search needs
 
--- src/lib.rt:270:1
 same-length-2 : tie.Need-same-length-2
 same-length-2 c = search needs
 
--- src/lib.rt:270:1
 returns-2 : tie.Need-returns-2
-returns-2 c = ?
+unfolding step entriesOf
+returns-2 c =
+    let a = c .before .before .before .before .before .before .before .before .before .before .before .before .before .before .before .before .before .before .before .before .args in
+    let s : State = state (a .b) (a .verbs .now) (a .points .now) in
+    one-done s (Cubic (a .c0) (a .c1) (a .p)) _ _ (one-admitted s (Cubic (a .c0) (a .c1) (a .p)) _ _ _ (c .before .before .before .before .before .before .before .before .before .before .before .before .before .before .before .before .before .opened-need .ensures) (c .before .before .before .before .before .before .before .before .before .before .before .before .before .before .before .before .admit .ensures) (c .before .before .before .before .before .before .before .before .before .before .before .before .before .before .enum-told .given .1)) (c .before .before .before .before .before .before .before .before .before .before .before .ensure-started .ensures) (c .before .before .before .before .push-cubic .ensures)
 
 pub cubic-to-spec : {M : Type 1} → statement M
 cubic-to-spec =
@@ -51,7 +58,7 @@ cubic-to-spec =
     admit-requires
     enum-told
     returns
-    open-requires
+    ensure-started-requires
     push-cubic-requires
     same-length
     same-length-2

@@ -13,12 +13,12 @@ use Rattle.stream.specs.declared.Element.the-variants.{Move, Line, Quad, Cubic,
 use Rattle.stream.specs.declared.Need.{Need}
 use Rattle.stream.specs.Stream.{State, state, origin, isEmpty, badRecord, hasRoom, badState, roomFor, pushAll}
 use Rattle.lowering.specs.Entries.{Entry, plain, elementsOf, jointWord, loweredOf}
-use Rattle.builder.specs.declared.Call.{Call}
-use Rattle.builder.specs.declared.Call.the-variants as call
-use Rattle.builder.specs.declared.Built.{Built}
-use Rattle.builder.specs.declared.Built.the-variants as built
-use Rattle.builder.specs.declared.ConicBuilt.{ConicBuilt}
-use Rattle.builder.specs.declared.ConicBuilt.the-variants as conicBuilt
+use Rattle.calls.specs.declared.Call.{Call}
+use Rattle.calls.specs.declared.Call.the-variants as call
+use Rattle.calls.specs.declared.Built.{Built}
+use Rattle.calls.specs.declared.Built.the-variants as built
+use Rattle.calls.specs.declared.ConicBuilt.{ConicBuilt}
+use Rattle.calls.specs.declared.ConicBuilt.the-variants as conicBuilt
 
 -- ---- what a call adds
 

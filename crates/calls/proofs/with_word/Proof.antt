@@ -1,35 +1,24 @@
-use Rattle.builder.specs.Calls.{withWord}
+use Rattle.calls.specs.Calls.{withWord}
 use borrow.Author.Needs.{needs}
-use Rattle.builder.proofs.with_word.Statement.{statement}
-use Rattle.builder.proofs.with_word.Tie as tie
-use Rattle.builder.proofs.with_word.Reads as reads
-use Rattle.builder.proofs.with_word.Lts as lts
+use Rattle.calls.proofs.with_word.Statement.{statement}
+use Rattle.calls.proofs.with_word.Tie as tie
 
--- src/lib.rt:150:21
 enum-known-a : tie.Need-enum-known-a
 enum-known-a c = search needs
 
--- src/lib.rt:151:26
 enum-known-a-2 : tie.Need-enum-known-a-2
 enum-known-a-2 c = search needs
 
--- src/lib.rt:152:23
 enum-known-a-3 : tie.Need-enum-known-a-3
 enum-known-a-3 c = search needs
 
--- src/lib.rt:146:1
 returns : tie.Need-returns
-unfolding withWord
 returns c = rw (c .before .a .given .1)
 
--- src/lib.rt:146:1
 returns-2 : tie.Need-returns-2
-unfolding withWord
 returns-2 c = rw (c .before .a2 .given .1)
 
--- src/lib.rt:146:1
 returns-3 : tie.Need-returns-3
-unfolding withWord
 returns-3 c = rw (c .before .a3 .given .1)
 
 pub with-word-spec : {M : Type 1} → statement M

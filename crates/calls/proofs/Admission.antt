@@ -17,10 +17,10 @@ use Rattle.stream.proofs.Tests.{room-is}
 use Rattle.stream.proofs.Push.{push-all-append, push-all-one}
 use Rattle.lowering.specs.Entries.{Entry, plain, elementsOf, jointWord}
 use Rattle.lowering.proofs.Entries.{elements-append}
-use Rattle.builder.specs.declared.Built.{Built}
-use Rattle.builder.specs.declared.Built.the-variants.{Done, BadRecord, NoRoom}
-use Rattle.builder.specs.Calls.{opening, Outcome, outcome, attempt, admitOf, outcomeOf, conicOutcomeOf, withWord}
-use Rattle.builder.proofs.Built.{the-type}
+use Rattle.calls.specs.declared.Built.{Built}
+use Rattle.calls.specs.declared.Built.the-variants.{Done, BadRecord, NoRoom}
+use Rattle.calls.specs.Calls.{opening, Outcome, outcome, attempt, admitOf, outcomeOf, conicOutcomeOf, withWord}
+use Rattle.calls.proofs.Built.{the-type}
 
 -- what holds where a need is admitted
 pub record Admitted (b : Builder) (vn fn : ℕ) (n : Need) : Type 0 where
@@ -35,12 +35,6 @@ admitted-go b x vn fn n false false ep eq e = let z : _≡_ {A = ℕ} 0 1 = cc i
 pub admitted : (b x : Builder) (vn fn : ℕ) (n : Need) {r : Built} → r ≡ admitOf b vn fn n → r ≡ Done x → Admitted b vn fn n
 unfolding admitOf
 admitted b x vn fn n e d = admitted-go b x vn fn n _ _ refl refl (sym e ∙ d)
-
--- the record that comes back is the same one
-same-go : (b x : Builder) (p q : Bool) → cond p (BadRecord b) (cond q (Done b) (NoRoom b)) ≡ Done x → x ≡ b
-same-go b x true q e = let z : _≡_ {A = ℕ} 0 1 = cc in absurd (omega arith)
-same-go b x false true e = cc
-same-go b x false false e = let z : _≡_ {A = ℕ} 0 1 = cc in absurd (omega arith)
 
 module _ (s : State) (es : List Entry) where
   -- a call that was not admitted
@@ -62,3 +56,7 @@ module _ (s : State) (es : List Entry) where
   pub done-is : (t : State) → Admitted (s .builder) (length (s .verbs)) (length (s .floats)) (needOf (elementsOf es)) → t ≡ pushAll s (elementsOf es) → outcome 0 (jointWord es) t ≡ attempt s es
   unfolding attempt
   done-is t h e = ap (outcome 0 (jointWord es)) e ∙ rw (h .good, h .room)
+
+-- a need that is that of es
+pub admitted-for : (b x : Builder) (vn fn : ℕ) (n : Need) (es ds : List Entry) {r : Built} → n ≡ needOf (elementsOf es) → es ≡ ds → r ≡ admitOf b vn fn n → r ≡ Done x → Admitted b vn fn (needOf (elementsOf ds))
+admitted-for b x vn fn n es ds e f a d = admitted b x vn fn _ (a ∙ ap (admitOf b vn fn) (e ∙ ap (λ (l : List Entry). needOf (elementsOf l)) f)) d

@@ -1,4 +1,4 @@
--- Laws of the opening move.
+-- Laws of the opening move, and of a close.
 use mathlib.Core.Path.{_≡_, refl}
 use mathlib.Core.List.{List, [], _∷_, _++_}
 use mathlib.Core.Bool.{Bool, true, false}
@@ -6,11 +6,12 @@ use Prim.Native.Nat.{ℕ, zero, suc, _+_, _-_}
 use native.Mathlib.Omega.{arith}
 use lib.ListN.{length}
 use lib.Dec.{eqb}
-use borrow.Author.Tests.{ne-eqb}
+use borrow.Author.Tests.{eq-eqb, ne-eqb}
+use Rattle.stream.specs.declared.Element.the-variants.{Close}
 use Rattle.stream.specs.declared.Need.{Need}
 use Rattle.stream.specs.Stream.{sizesOf, needOf}
-use Rattle.lowering.specs.Entries.{Entry, elementsOf, piecesIn, jointWord}
-use Rattle.builder.specs.Calls.{opening, openedNeed}
+use Rattle.lowering.specs.Entries.{Entry, plain, elementsOf, piecesIn, jointWord}
+use Rattle.calls.specs.Calls.{opening, closing, openedNeed}
 
 -- it has no piece
 pub word-opened : (e : Bool) (es : List Entry) → jointWord (opening e ++ es) ≡ jointWord es
@@ -36,3 +37,10 @@ pub opening-size : (n : ℕ) → sizesOf (elementsOf (opening (eqb n 0))) ≡ 1 
 unfolding elementsOf sizesOf
 opening-size zero = refl
 opening-size (suc n) = rw (ne-eqb (suc n) 0 (λ e. omega arith)) (omega arith)
+
+-- a close
+pub closing-empty : (n : ℕ) → n ≡ 0 → closing (eqb n 0) ≡ []
+closing-empty n e = rw (eq-eqb n 0 e)
+
+pub closing-held : (n : ℕ) → (n ≡ 0 → ⊥) → closing (eqb n 0) ≡ plain Close ∷ []
+closing-held n e = rw (ne-eqb n 0 e)

@@ -1,0 +1,4 @@
+-- Laws of the opening move, of admission and of the calls.
+pub mod Opening
+pub mod Admission
+pub mod Opened
