@@ -13,7 +13,7 @@ use Rattle.lowering.specs.Entries.{Entry, elementsOf}
 use Rattle.lowering.proofs.Entries.{elements-append}
 use Rattle.calls.specs.declared.Call.{Call}
 use Rattle.calls.specs.Calls.{entriesOf}
-use Rattle.outline.specs.Entries.{startAfter, penAfter, entriesAlong, elementsAlong, pushCalls, RoomAlong}
+use Rattle.outline.specs.Entries.{startAfter, penAfter, entriesAlong, startAlong, penAlong, elementsAlong, pushCalls, RoomAlong}
 
 pub start-append : (s : Point) (ks js : List Element) → startAfter s (ks ++ js) ≡ startAfter (startAfter s ks) js
 unfolding startAfter
@@ -24,13 +24,6 @@ pub pen-append : (s p : Point) (ks js : List Element) → penAfter s p (ks ++ js
 unfolding startAfter penAfter
 pen-append s p [] js = refl
 pen-append s p (k ∷ ks) js = pen-append (startOf s k) (penOf s k) ks js
-
--- where calls leave the start and the pen
-abbrev pub startAlong : Point → Point → List Call → Point
-startAlong s p cs = startAfter s (elementsOf (entriesAlong s p cs))
-
-abbrev pub penAlong : Point → Point → List Call → Point
-penAlong s p cs = penAfter s p (elementsOf (entriesAlong s p cs))
 
 module _ (s p : Point) (c : Call) (cs : List Call) where
   abbrev first : List Element

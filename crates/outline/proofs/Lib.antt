@@ -1,3 +1,7 @@
 -- Laws of calls that run one after the other, and of an outline's parts.
 pub mod Along
 pub mod Conics
+pub mod Passing
+pub mod Counted
+pub mod Pushed
+pub mod Outlined
