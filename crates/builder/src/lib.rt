@@ -103,7 +103,7 @@ pub fn conic_to(
     ConicBuilt::Done(wb, w.word)
 }
 
-// On an empty builder a close is accepted and changes nothing.
+// On an empty builder a close is accepted, and changes nothing.
 pub fn close(b: Builder, verbs: &mut [u8], points: &mut [f32]) -> Built
     ensures { λ r. ⌜ outcomeOf r (now (verbs .exit)) (now (points .exit)) ≡ step (state b (now (verbs .entry)) (now (points .entry))) Call.Close ⌝ }
 {
@@ -115,18 +115,4 @@ pub fn close(b: Builder, verbs: &mut [u8], points: &mut [f32]) -> Built
         return Built::Done(b);
     }
     Built::Done(stream::push_close(b, verbs, points))
-}
-
-// A call given as a value.
-pub fn apply(b: Builder, verbs: &mut [u8], points: &mut [f32], call: Call) -> ConicBuilt
-    ensures { λ r. ⌜ conicOutcomeOf r (now (verbs .exit)) (now (points .exit)) ≡ step (state b (now (verbs .entry)) (now (points .entry))) call ⌝ }
-{
-    match call {
-        Call::MoveTo(p) => calls::with_word(move_to(b, verbs, points, p), 0),
-        Call::LineTo(p) => calls::with_word(line_to(b, verbs, points, p), 0),
-        Call::QuadTo(ctrl, p) => calls::with_word(quad_to(b, verbs, points, ctrl, p), 0),
-        Call::ConicTo(ctrl, to, weight) => conic_to(b, verbs, points, ctrl, to, weight),
-        Call::CubicTo(c0, c1, p) => calls::with_word(cubic_to(b, verbs, points, c0, c1, p), 0),
-        Call::Close => calls::with_word(close(b, verbs, points), 0),
-    }
 }

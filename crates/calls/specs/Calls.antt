@@ -67,8 +67,12 @@ attempt s es =
     cond (badState s) (outcome 1 0 s)
     (cond (roomFor s (elementsOf es)) (outcome 0 (jointWord es) (pushAll s (elementsOf es))) (outcome 5 0 s))
 
+-- a call of a kind that is given by its entries, and one of the six
+abbrev pub stepBy : {C : Type 0} → (Bool → Point → C → List Entry) → State → C → Outcome
+stepBy entries s c = attempt s (entries (isEmpty (s .builder)) (s .builder .pen) c)
+
 unfoldable pub step : State → Call → Outcome
-step s c = attempt s (entriesOf (isEmpty (s .builder)) (s .builder .pen) c)
+step s c = stepBy entriesOf s c
 
 -- the answers of a call that left the buffers at vs and fs
 abbrev pub outcomeOf : Built → List ℕ → List Float → Outcome

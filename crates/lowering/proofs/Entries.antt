@@ -1,6 +1,7 @@
 -- Laws of lists of entries: their elements, their pieces and their needs.
 use mathlib.Core.Path.{_≡_, refl, sym, ap, subst, _∙_}
 use mathlib.Core.List.{List, [], _∷_, _++_, map}
+use mathlib.Core.Bool.{Bool, true, false, cond}
 use Prim.Native.Nat.{ℕ, suc, _+_, _*_}
 use native.Mathlib.Omega.{arith}
 use lib.ListN.{length}
@@ -8,11 +9,13 @@ use Rattle.geometry.specs.declared.Point.{Point}
 use Rattle.conic.specs.declared.Conic.{Conic}
 use Rattle.conic.specs.declared.Lowered.{Lowered}
 use Rattle.conic.specs.declared.Lowered.the-variants as lowered
+use Rattle.conic.specs.Conic.{isLine, lowerOf}
 use Rattle.conic.specs.Halving.{Piece, piecesOf, wordOf}
+use Rattle.conic.proofs.Whole.{whole-conic}
 use Rattle.stream.specs.declared.Element.{Element}
 use Rattle.stream.specs.declared.Element.the-variants.{Line}
 use Rattle.stream.specs.Stream.{sizesOf}
-use Rattle.lowering.specs.Entries.{Entry, piece, elementOf, elementsOf, quadsOf, piecesIn, jointWord, loweredOf}
+use Rattle.lowering.specs.Entries.{Entry, piece, elementOf, elementsOf, quadsOf, piecesIn, jointWord, loweredOf, LineOrQuads, one-line, quads}
 
 pub elements-append : (es ds : List Entry) → elementsOf (es ++ ds) ≡ elementsOf es ++ elementsOf ds
 unfolding elementsOf
@@ -61,3 +64,12 @@ lowered-curve l c e =
     let ps = piecesOf c in
     subst (λ (x : Lowered). LoweredTo x (quadsOf ps) (length ps) (2 * length ps) (wordOf ps)) (sym e)
     record { elements = refl; many = quads-length ps; size = quads-sizes ps; word = ap wordOf (pieces-all ps) }
+
+line-or-quads-go : (c : Conic) (t : Bool) → isLine c ≡ t → LineOrQuads c (loweredOf (cond t (lowered.Line (c .to)) (lowered.Curve c)))
+unfolding loweredOf
+line-or-quads-go c true e = one-line e
+line-or-quads-go c false e = quads e (whole-conic c)
+
+pub line-or-quads : (c : Conic) → LineOrQuads c (loweredOf (lowerOf c))
+unfolding lowerOf
+line-or-quads c = line-or-quads-go c (isLine c) refl

@@ -1,9 +1,14 @@
 -- What is added to a path: elements, and for the quads of a conic the pieces that halving left, each with its span. Definitions only.
+use mathlib.Core.Path.{_≡_}
 use mathlib.Core.List.{List, [], _∷_, map}
+use mathlib.Core.Bool.{true, false}
 use Prim.Native.Nat.{ℕ}
+use Rattle.conic.specs.declared.Conic.{Conic}
 use Rattle.conic.specs.declared.Lowered.{Lowered}
 use Rattle.conic.specs.declared.Lowered.the-variants as lowered
+use Rattle.conic.specs.Conic.{isLine}
 use Rattle.conic.specs.Halving.{Piece, piecesOf, wordOf}
+use Rattle.conic.specs.Spans.{WholeConic}
 use Rattle.stream.specs.declared.Element.{Element}
 use Rattle.stream.specs.declared.Element.the-variants.{Line, Quad}
 
@@ -40,3 +45,8 @@ jointWord es = wordOf (piecesIn es)
 unfoldable pub loweredOf : Lowered → List Entry
 loweredOf (lowered.Line p) = plain (Line p) ∷ []
 loweredOf (lowered.Curve c) = map piece (piecesOf c)
+
+-- what document 01 says of a conic's entries: one line to the target, or 1 to 64 quads
+pub data LineOrQuads (c : Conic) : List Entry → Type 0 where
+  one-line : isLine c ≡ true → LineOrQuads c (plain (Line (c .to)) ∷ [])
+  quads : {ps : List Piece} → isLine c ≡ false → WholeConic c ps → LineOrQuads c (map piece ps)

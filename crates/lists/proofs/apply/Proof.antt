@@ -3,8 +3,8 @@ use Rattle.calls.specs.Calls.{step}
 use Rattle.stream.specs.Stream.{State, state}
 use mathlib.Core.Path.{sym, ap, _∙_}
 use borrow.Author.Needs.{needs}
-use Rattle.builder.proofs.apply.Statement.{statement}
-use Rattle.builder.proofs.apply.Tie as tie
+use Rattle.lists.proofs.apply.Statement.{statement}
+use Rattle.lists.proofs.apply.Tie as tie
 
 enum-known-call : tie.Need-enum-known-call
 enum-known-call c = search needs

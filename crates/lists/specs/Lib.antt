@@ -1,0 +1,3 @@
+pub mod Simulation
+pub mod Book
+pub mod Lists

@@ -1,0 +1,35 @@
+-- Document 01's samples a to e, each computed.
+use mathlib.Core.Path.{refl}
+use lib.Ieee as Ieee
+use Rattle.ieee.specs.Basic.{absOf}
+use Rattle.ieee.specs.Sqrt.{sqrtOf, rootOf, isqrt, root}
+use Rattle.geometry.specs.Point.{addOf, subOf, scaleOf, shrinkOf, lengthOf, lengthSquaredOf, finitePoint}
+use Rattle.conic.specs.Conic.{isLine, lowerOf, conicMid, quadMid, flatOf, splitOf}
+use Rattle.conic.specs.Halving.{halve, wordOf}
+use Rattle.stream.specs.Stream.{sizesOf, badRecord, hasRoom}
+use Rattle.lowering.specs.Entries.{elementsOf, piecesIn, loweredOf}
+use Rattle.calls.specs.Calls.{entriesOf, step, attempt}
+use Rattle.samples.specs.Samples.{SamplesAToE}
+
+-- opens every definition that a conic is computed by
+unfoldable computing : Unit {0}
+unfolding entriesOf loweredOf elementsOf piecesIn sizesOf lowerOf isLine halve wordOf conicMid quadMid flatOf splitOf addOf subOf scaleOf shrinkOf lengthOf lengthSquaredOf finitePoint absOf sqrtOf rootOf isqrt root step attempt badRecord hasRoom Ieee.ofBits Ieee.ofFields Ieee.lt Ieee.le Ieee.sub Ieee.add Ieee.neg Ieee.sum Ieee.round Ieee.size Ieee.units Ieee.odd Ieee.mul Ieee.div Ieee.span Ieee.climb
+computing = tt
+
+pub samples : SamplesAToE
+unfolding computing
+samples = record {
+  a = refl;
+  a-word = refl;
+  b = refl;
+  b-word = refl;
+  c-verbs = refl;
+  c-points = refl;
+  c-word = refl;
+  c-room = refl;
+  c-full = refl;
+  d = refl;
+  d-word = refl;
+  e = refl;
+  e-word = refl;
+}
