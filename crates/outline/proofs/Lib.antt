@@ -1,7 +1,3 @@
--- Laws of calls that run one after the other, and of an outline's parts.
-pub mod Along
-pub mod Conics
-pub mod Passing
-pub mod Counted
+-- Laws of an outline as a call.
 pub mod Pushed
 pub mod Outlined

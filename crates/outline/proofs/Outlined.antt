@@ -20,7 +20,7 @@ use Rattle.calls.proofs.Admission.{Admitted, admitted-for, refused-is, done-is}
 use Rattle.shape.specs.declared.RoundSuperellipse.{RoundSuperellipse}
 use Rattle.corners.specs.declared.Outline.{Outline}
 use Rattle.corners.specs.Calls.{Drawing, drawingOf, callsIn, outlineOf, outlineCalls}
-use Rattle.outline.specs.Entries.{startAfter, penAfter, entriesAlong, outlineEntries, elementsAlong, pushCalls, RoomAlong}
+use Rattle.contour.specs.Entries.{startAfter, penAfter, entriesAlong, outlineEntries, elementsAlong, pushCalls, RoomAlong}
 use Rattle.outline.specs.Step.{wordless, outlineStep}
 
 -- a call other than a conic has no word

@@ -11,8 +11,8 @@ use Rattle.stream.proofs.Push.{sizes-one, push-all-one}
 use Rattle.lowering.specs.Entries.{Entry, plain, elementsOf}
 use Rattle.calls.specs.declared.Call.{Call}
 use Rattle.calls.specs.Calls.{entriesOf}
-use Rattle.outline.specs.Entries.{pushCalls, RoomAlong}
-use Rattle.outline.proofs.Passing.{along-one}
+use Rattle.contour.specs.Entries.{pushCalls, RoomAlong}
+use Rattle.contour.proofs.Passing.{along-one}
 
 module _ (s : State) (c : Call) where
   pub room-one : RoomAlong s (c ∷ []) → Fits (s .builder) (s .verbs) (s .floats) (elementsOf (entriesOf false (s .builder .pen) c))

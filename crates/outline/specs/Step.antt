@@ -2,7 +2,7 @@
 use Rattle.stream.specs.Stream.{State}
 use Rattle.calls.specs.Calls.{Outcome, outcome, attempt}
 use Rattle.shape.specs.declared.RoundSuperellipse.{RoundSuperellipse}
-use Rattle.outline.specs.Entries.{outlineEntries}
+use Rattle.contour.specs.Entries.{outlineEntries}
 
 -- an outline's answer has no joint word
 abbrev pub wordless : Outcome → Outcome

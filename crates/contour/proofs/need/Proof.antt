@@ -2,10 +2,10 @@ use mathlib.Core.Path.{ap, _∙_}
 use Rattle.stream.specs.Stream.{origin, needOf}
 use Rattle.lowering.specs.Entries.{elementsOf}
 use Rattle.corners.specs.Calls.{Drawing, callsIn, outlineCalls}
-use Rattle.outline.specs.Entries.{entriesAlong, outlineEntries}
+use Rattle.contour.specs.Entries.{entriesAlong, outlineEntries}
 use borrow.Author.Needs.{needs}
-use Rattle.outline.proofs.need.Statement.{statement}
-use Rattle.outline.proofs.need.Tie as tie
+use Rattle.contour.proofs.need.Statement.{statement}
+use Rattle.contour.proofs.need.Tie as tie
 
 draw-requires : tie.Need-draw-requires
 draw-requires c κs = search needs

@@ -1,7 +1,7 @@
-use Rattle.outline.proofs.Passing.{passes-conic}
+use Rattle.contour.proofs.Passing.{passes-conic}
 use borrow.Author.Needs.{needs}
-use Rattle.outline.proofs.conic_need.Statement.{statement}
-use Rattle.outline.proofs.conic_need.Tie as tie
+use Rattle.contour.proofs.conic_need.Statement.{statement}
+use Rattle.contour.proofs.conic_need.Tie as tie
 
 need-requires : tie.Need-need-requires
 need-requires c κs = search needs

@@ -13,7 +13,7 @@ use Rattle.lowering.specs.Entries.{Entry, elementsOf}
 use Rattle.lowering.proofs.Entries.{elements-append}
 use Rattle.calls.specs.declared.Call.{Call}
 use Rattle.calls.specs.Calls.{entriesOf}
-use Rattle.outline.specs.Entries.{startAfter, penAfter, entriesAlong, startAlong, penAlong, elementsAlong, pushCalls, RoomAlong}
+use Rattle.contour.specs.Entries.{startAfter, penAfter, entriesAlong, startAlong, penAlong, elementsAlong, pushCalls, RoomAlong}
 
 pub start-append : (s : Point) (ks js : List Element) → startAfter s (ks ++ js) ≡ startAfter (startAfter s ks) js
 unfolding startAfter

@@ -1,9 +1,9 @@
 use native.Mathlib.Omega.{arith}
-use Rattle.outline.proofs.Passing.{passes-few}
-use Rattle.outline.proofs.Counted.{counted-square, counted-round}
+use Rattle.contour.proofs.Passing.{passes-few}
+use Rattle.contour.proofs.Counted.{counted-square, counted-round}
 use borrow.Author.Needs.{needs}
-use Rattle.outline.proofs.corner_need.Statement.{statement}
-use Rattle.outline.proofs.corner_need.Tie as tie
+use Rattle.contour.proofs.corner_need.Statement.{statement}
+use Rattle.contour.proofs.corner_need.Tie as tie
 
 enum-told : tie.Need-enum-told
 enum-told c = search needs

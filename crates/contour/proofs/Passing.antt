@@ -18,9 +18,9 @@ use Rattle.lowering.proofs.Entries.{elements-append}
 use Rattle.calls.specs.declared.Call.{Call}
 use Rattle.calls.specs.declared.Call.the-variants as call
 use Rattle.calls.specs.Calls.{entriesOf}
-use Rattle.outline.specs.Entries.{startAfter, penAfter, entriesAlong, startAlong, penAlong, Passes}
-use Rattle.outline.proofs.Along.{start-append, pen-append, along-append}
-use Rattle.outline.proofs.Conics.{conic-adds}
+use Rattle.contour.specs.Entries.{startAfter, penAfter, entriesAlong, startAlong, penAlong, Passes}
+use Rattle.contour.proofs.Along.{start-append, pen-append, along-append}
+use Rattle.contour.proofs.Conics.{conic-adds}
 
 abbrev plus : Need → Need → Need
 plus n m = record { verbs = n .verbs + m .verbs; points = n .points + m .points }

@@ -20,7 +20,7 @@ use Rattle.lowering.specs.Entries.{elementsOf, quadsOf, loweredOf}
 use Rattle.lowering.proofs.Entries.{quads-length, quads-sizes}
 use Rattle.calls.specs.declared.Call.the-variants.{ConicTo}
 use Rattle.calls.specs.Calls.{entriesOf}
-use Rattle.outline.specs.Entries.{startAfter, penAfter}
+use Rattle.contour.specs.Entries.{startAfter, penAfter}
 
 quads-start : (s : Point) (ps : List Piece) → startAfter s (quadsOf ps) ≡ s
 unfolding startAfter elementsOf

@@ -3,10 +3,10 @@ use mathlib.Core.List.{_∷_, []}
 use Prim.Native.Nat.{_+_}
 use native.Mathlib.Omega.{arith}
 use Rattle.corners.specs.Calls.{conicCall, cubicCall}
-use Rattle.outline.proofs.Passing.{passes-cubic, passes-sum, passes-few}
+use Rattle.contour.proofs.Passing.{passes-cubic, passes-sum, passes-few}
 use borrow.Author.Needs.{needs}
-use Rattle.outline.proofs.backwards_need.Statement.{statement}
-use Rattle.outline.proofs.backwards_need.Tie as tie
+use Rattle.contour.proofs.backwards_need.Statement.{statement}
+use Rattle.contour.proofs.backwards_need.Tie as tie
 
 conic-need-requires : tie.Need-conic-need-requires
 conic-need-requires c κs = search needs

@@ -1,9 +1,9 @@
 use mathlib.Core.Path.{refl}
 use native.Mathlib.Omega.{arith}
-use Rattle.outline.proofs.Counted.{counted-few, counted-outline}
+use Rattle.contour.proofs.Counted.{counted-few, counted-outline}
 use borrow.Author.Needs.{needs}
-use Rattle.outline.proofs.outline_need.Statement.{statement}
-use Rattle.outline.proofs.outline_need.Tie as tie
+use Rattle.contour.proofs.outline_need.Statement.{statement}
+use Rattle.contour.proofs.outline_need.Tie as tie
 
 corner-need-requires : tie.Need-corner-need-requires
 corner-need-requires c κs = search needs

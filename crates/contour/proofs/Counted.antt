@@ -15,8 +15,8 @@ use Rattle.corners.specs.declared.Corner.{Corner}
 use Rattle.corners.specs.declared.Corner.the-variants.{Square, Round}
 use Rattle.corners.specs.declared.Outline.{Outline}
 use Rattle.corners.specs.Calls.{callsForwards, callsBackwards, callsOf, drawingOf, callsIn}
-use Rattle.outline.specs.Entries.{entriesAlong, Passes, lastPoint}
-use Rattle.outline.proofs.Passing.{passes-line, passes-none, passes-sum, passes-few, outline-need}
+use Rattle.contour.specs.Entries.{entriesAlong, Passes, lastPoint}
+use Rattle.contour.proofs.Passing.{passes-line, passes-none, passes-sum, passes-few, outline-need}
 
 abbrev Counted : Point → Corner → Need → Type 0
 Counted pen corner n = Passes pen (callsOf corner) (lastPoint corner) n
