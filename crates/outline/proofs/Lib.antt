@@ -1,0 +1,3 @@
+-- Laws of an outline as a call.
+pub mod Pushed
+pub mod Outlined
