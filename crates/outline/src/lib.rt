@@ -100,8 +100,9 @@ fn push_outline(b: Builder, verbs: &mut [u8], points: &mut [f32], o: Outline) ->
     stream::push_close(b3, verbs, points)
 }
 
-// The outline behind the held elements: a move, four corners, a line to the move's point, a close.
-pub fn add_to(shape: RoundSuperellipse, b: Builder, verbs: &mut [u8], points: &mut [f32]) -> Built
+// The outline behind the held elements: a move, four corners, a line to the move's point, a close. It becomes
+// public with the theorem on lists of the seven calls.
+fn add_to(shape: RoundSuperellipse, b: Builder, verbs: &mut [u8], points: &mut [f32]) -> Built
     ensures { λ r. ⌜ outcomeOf r (now (verbs .exit)) (now (points .exit)) ≡ outlineStep (state b (now (verbs .entry)) (now (points .entry))) shape ⌝ }
 {
     let o = corners::draw(shape);
