@@ -1,6 +1,6 @@
 // The lines that are written.
-use builder::Call;
-use builder::ConicBuilt;
+use calls::Call;
+use calls::ConicBuilt;
 use geometry::Point;
 use libc::STDOUT_FILENO;
 use reader::Bounded;

@@ -1,7 +1,7 @@
 // What a line asks for.
 use crate::words;
 use crate::words::Operands;
-use builder::Call;
+use calls::Call;
 use check::same;
 use geometry::Point;
 use reader::Cursor;

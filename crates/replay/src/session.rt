@@ -3,7 +3,7 @@ use crate::answers;
 use crate::items;
 use crate::items::Item;
 use crate::words;
-use builder::Call;
+use calls::Call;
 use geometry::Point;
 use reader::Cursor;
 use reader::Reading;
@@ -215,7 +215,7 @@ fn build(s: Session, call: Call, verbs: &mut [u8], floats: &mut [f32]) -> Sessio
     if f > floats.len() {
         return s;
     }
-    let a = builder::apply(s.builder, &mut verbs[0..v], &mut floats[0..f], call);
+    let a = lists::apply(s.builder, &mut verbs[0..v], &mut floats[0..f], call);
     set_builder(s, answers::write_built(call, a))
 }
 
