@@ -7,13 +7,13 @@ use native.Mathlib.Omega.{arith}
 use lib.ListN.{length, length-append}
 use Rattle.geometry.specs.declared.Point.{Point}
 use Rattle.stream.specs.declared.Element.{Element}
-use Rattle.stream.specs.Stream.{State, startOf, penOf, sizesOf, advanceOf, push, pushAll, Fits}
-use Rattle.stream.proofs.Push.{push-all-append, push-all-verbs, push-all-points, sizes-append}
+use Rattle.stream.specs.Stream.{State, startOf, penOf, startAfter, penAfter, sizesOf, pushAll, Fits}
+use Rattle.stream.proofs.Push.{push-all-append, push-all-verbs, push-all-points, push-all-start, push-all-pen, sizes-append}
 use Rattle.lowering.specs.Entries.{Entry, elementsOf}
 use Rattle.lowering.proofs.Entries.{elements-append}
 use Rattle.calls.specs.declared.Call.{Call}
 use Rattle.calls.specs.Calls.{entriesOf}
-use Rattle.contour.specs.Entries.{startAfter, penAfter, entriesAlong, startAlong, penAlong, elementsAlong, pushCalls, RoomAlong}
+use Rattle.contour.specs.Entries.{entriesAlong, startAlong, penAlong, elementsAlong, pushCalls, RoomAlong}
 
 pub start-append : (s : Point) (ks js : List Element) → startAfter s (ks ++ js) ≡ startAfter (startAfter s ks) js
 unfolding startAfter
@@ -53,16 +53,6 @@ along-append s p (c ∷ cs) ds =
     ∙ sym (append-assoc es (entriesAlong s1 p1 cs) (entriesAlong (startAlong s p (c ∷ cs)) (penAlong s p (c ∷ cs)) ds))
 
 -- ---- on a state
-
-pub push-all-start : (s : State) (ks : List Element) → pushAll s ks .builder .start ≡ startAfter (s .builder .start) ks
-unfolding pushAll push advanceOf startAfter
-push-all-start s [] = refl
-push-all-start s (k ∷ ks) = push-all-start (push s k) ks
-
-pub push-all-pen : (s : State) (ks : List Element) → pushAll s ks .builder .pen ≡ penAfter (s .builder .start) (s .builder .pen) ks
-unfolding pushAll push advanceOf penAfter
-push-all-pen s [] = refl
-push-all-pen s (k ∷ ks) = push-all-pen (push s k) ks
 
 -- what a list leaves, the next list goes on from
 elements-after : (s t : State) (cs ds : List Call) → t ≡ pushCalls s cs → elementsAlong s (cs ++ ds) ≡ elementsAlong s cs ++ elementsAlong t ds

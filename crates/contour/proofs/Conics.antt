@@ -15,12 +15,11 @@ use Rattle.conic.specs.Halving.{Piece, piecesOf}
 use Rattle.conic.specs.Spans.{lastTarget}
 use Rattle.conic.proofs.Whole.{whole-conic}
 use Rattle.stream.specs.declared.Element.{Element}
-use Rattle.stream.specs.Stream.{sizesOf}
+use Rattle.stream.specs.Stream.{sizesOf, startAfter, penAfter}
 use Rattle.lowering.specs.Entries.{elementsOf, quadsOf, loweredOf}
 use Rattle.lowering.proofs.Entries.{quads-length, quads-sizes}
 use Rattle.calls.specs.declared.Call.the-variants.{ConicTo}
 use Rattle.calls.specs.Calls.{entriesOf}
-use Rattle.contour.specs.Entries.{startAfter, penAfter}
 
 quads-start : (s : Point) (ps : List Piece) → startAfter s (quadsOf ps) ≡ s
 unfolding startAfter elementsOf

@@ -11,14 +11,14 @@ use Rattle.geometry.specs.declared.Point.{Point}
 use Rattle.stream.specs.declared.Element.{Element}
 use Rattle.stream.specs.declared.Element.the-variants.{Move, Line, Close}
 use Rattle.stream.specs.declared.Need.{Need}
-use Rattle.stream.specs.Stream.{origin, sizesOf, needOf}
+use Rattle.stream.specs.Stream.{origin, sizesOf, needOf, startAfter, penAfter}
 use Rattle.stream.proofs.Push.{sizes-append}
 use Rattle.lowering.specs.Entries.{Entry, plain, elementsOf}
 use Rattle.lowering.proofs.Entries.{elements-append}
 use Rattle.calls.specs.declared.Call.{Call}
 use Rattle.calls.specs.declared.Call.the-variants as call
 use Rattle.calls.specs.Calls.{entriesOf}
-use Rattle.contour.specs.Entries.{startAfter, penAfter, entriesAlong, startAlong, penAlong, Passes}
+use Rattle.contour.specs.Entries.{entriesAlong, startAlong, penAlong, Passes}
 use Rattle.contour.proofs.Along.{start-append, pen-append, along-append}
 use Rattle.contour.proofs.Conics.{conic-adds}
 
@@ -56,17 +56,17 @@ passes-conic p a b w n e =
 
 -- ---- lists joined
 
-module _ (p q r : Point) (cs ds : List Call) (n m : Need) (h : Passes p cs q n) (g : Passes q ds r m) where
-  -- the second list runs from where the first leads
-  joined : (s : Point) → entriesAlong s p (cs ++ ds) ≡ entriesAlong s p cs ++ entriesAlong s q ds
-  joined s = along-append s p cs ds ∙ ap₂ (λ (x y : Point). entriesAlong s p cs ++ entriesAlong x y ds) (h .start s) (h .pen s)
+-- the second list runs from where the first leads
+pub along-then : {p q : Point} {cs : List Call} {n : Need} → Passes p cs q n → (s : Point) (ds : List Call) → entriesAlong s p (cs ++ ds) ≡ entriesAlong s p cs ++ entriesAlong s q ds
+along-then {p} {q} {cs} {n} h s ds = along-append s p cs ds ∙ ap₂ (λ (x y : Point). entriesAlong s p cs ++ entriesAlong x y ds) (h .start s) (h .pen s)
 
+module _ (p q r : Point) (cs ds : List Call) (n m : Need) (h : Passes p cs q n) (g : Passes q ds r m) where
   elements-joined : (s : Point) → elementsOf (entriesAlong s p (cs ++ ds)) ≡ elementsOf (entriesAlong s p cs) ++ elementsOf (entriesAlong s q ds)
-  elements-joined s = ap elementsOf (joined s) ∙ elements-append (entriesAlong s p cs) (entriesAlong s q ds)
+  elements-joined s = ap elementsOf (along-then h s ds) ∙ elements-append (entriesAlong s p cs) (entriesAlong s q ds)
 
   pub passes-join : Passes p (cs ++ ds) r (plus n m)
   passes-join = record {
-    need = λ s. ap (λ (es : List Entry). needOf (elementsOf es)) (joined s) ∙ need-append (entriesAlong s p cs) (entriesAlong s q ds) ∙ ap₂ plus (h .need s) (g .need s);
+    need = λ s. ap (λ (es : List Entry). needOf (elementsOf es)) (along-then h s ds) ∙ need-append (entriesAlong s p cs) (entriesAlong s q ds) ∙ ap₂ plus (h .need s) (g .need s);
     start = λ s. let ks = elementsOf (entriesAlong s p cs) in let js = elementsOf (entriesAlong s q ds) in
         ap (startAfter s) (elements-joined s) ∙ start-append s ks js ∙ ap (λ (x : Point). startAfter x js) (h .start s) ∙ g .start s;
     pen = λ s. let ks = elementsOf (entriesAlong s p cs) in let js = elementsOf (entriesAlong s q ds) in

@@ -6,7 +6,7 @@ use mathlib.Core.Bool.{false}
 use Rattle.geometry.specs.declared.Point.{Point}
 use Rattle.stream.specs.declared.Element.{Element}
 use Rattle.stream.specs.declared.Need.{Need}
-use Rattle.stream.specs.Stream.{State, origin, startOf, penOf, needOf, pushAll, Fits}
+use Rattle.stream.specs.Stream.{State, origin, startAfter, penAfter, needOf, pushAll, Fits}
 use Rattle.lowering.specs.Entries.{Entry, elementsOf}
 use Rattle.calls.specs.declared.Call.{Call}
 use Rattle.calls.specs.Calls.{entriesOf}
@@ -14,15 +14,6 @@ use Rattle.shape.specs.declared.RoundSuperellipse.{RoundSuperellipse}
 use Rattle.corners.specs.declared.Corner.{Corner}
 use Rattle.corners.specs.declared.Corner.the-variants.{Square, Round}
 use Rattle.corners.specs.Calls.{outlineCalls}
-
--- where elements leave the contour's start, which was at s, and the pen, which was at p
-unfoldable pub startAfter : Point → List Element → Point
-startAfter s [] = s
-startAfter s (k ∷ ks) = startAfter (startOf s k) ks
-
-unfoldable pub penAfter : Point → Point → List Element → Point
-penAfter s p [] = p
-penAfter s p (k ∷ ks) = penAfter (startOf s k) (penOf s k) ks
 
 -- the entries of calls on a path that is not empty
 unfoldable pub entriesAlong : Point → Point → List Call → List Entry

@@ -11,36 +11,24 @@ use Rattle.geometry.specs.declared.Point.{Point}
 use Rattle.stream.specs.declared.Builder.{Builder}
 use Rattle.stream.specs.declared.Element.{Element}
 use Rattle.stream.specs.declared.Element.the-variants.{Move, Line, Quad, Cubic, Close}
-use Rattle.stream.specs.Stream.{State, state, isEmpty, badState, hasRoom, roomFor, needOf, sizesOf, startOf, penOf, advanceOf, push, pushAll}
+use Rattle.stream.specs.Stream.{State, state, isEmpty, badState, hasRoom, roomFor, needOf, sizesOf, startAfter, penAfter, pushAll}
 use Rattle.stream.proofs.Tests.{and-left, and-right}
-use Rattle.stream.proofs.Push.{sizes-append}
+use Rattle.stream.proofs.Push.{sizes-append, push-all-start, push-all-pen}
 use Rattle.reader.proofs.Holding.{Holding, holding-all, holding-good}
 use Rattle.lowering.specs.Entries.{Entry, elementOf, elementsOf, jointWord}
 use Rattle.lowering.proofs.Entries.{elements-append}
-use Rattle.calls.specs.Calls.{Outcome, outcome, attempt, stepBy}
+use Rattle.calls.specs.Calls.{Outcome, outcome, attempt}
 use Rattle.lists.specs.Simulation.{Machine, Simulates}
-use Rattle.lists.specs.Book.{Book, isNil, lastStart, lastPen, fitsIn, accepts, grown, Reply, reply, building, added, bookkeeping}
-use Rattle.lists.specs.Lists.{Opens, GivenByEntries}
+use Rattle.lists.specs.Book.{Book, isNil, fitsIn, accepts, grown, Reply, reply, building, added, bookkeeping}
+use Rattle.lists.specs.Lists.{Opens, said, GivenByEntries}
 
--- ---- start and pen
-
-push-start : (s : State) (ks : List Element) → pushAll s ks .builder .start ≡ lastStart (s .builder .start) ks
-unfolding pushAll push advanceOf lastStart
-push-start s [] = refl
-push-start s (k ∷ ks) = push-start (push s k) ks
-
-push-pen : (s : State) (ks : List Element) → pushAll s ks .builder .pen ≡ lastPen (s .builder .start) (s .builder .pen) ks
-unfolding pushAll push advanceOf lastPen
-push-pen s [] = refl
-push-pen s (k ∷ ks) = push-pen (push s k) ks
-
--- behind a move they depend on nothing before it
+-- behind a move, start and pen depend on nothing before it
 record Anywhere (s p s′ p′ : Point) (ks : List Element) : Type 0 where
-  start : lastStart s ks ≡ lastStart s′ ks
-  pen : lastPen s p ks ≡ lastPen s′ p′ ks
+  start : startAfter s ks ≡ startAfter s′ ks
+  pen : penAfter s p ks ≡ penAfter s′ p′ ks
 
 opens-anywhere : (s p s′ p′ : Point) (ks : List Element) → Opens ks → (length ks ≡ 0 → ⊥) → Anywhere s p s′ p′ ks
-unfolding lastStart lastPen
+unfolding startAfter penAfter
 opens-anywhere s p s′ p′ [] h n = absurd (n refl)
 opens-anywhere s p s′ p′ (Move q ∷ ks) h n = record { start = refl; pen = refl }
 opens-anywhere s p s′ p′ (Line q ∷ ks) h n = absurd h
@@ -91,7 +79,17 @@ attempt-is es h = rw (holding-good (h .holding), fits-is es h)
 
 -- ---- a call
 
-module _ {C : Type 0} {entries : Bool → Point → C → List Entry} (given : GivenByEntries entries) (vn fn : ℕ) where
+-- what a call that adds es and answers a word, or none, leaves and answers: done, or refused for want of room
+abbrev settled : State → List Entry → Bool → Bool → Outcome
+settled s es w t = cond t (outcome 0 (cond w (jointWord es) 0) (pushAll s (elementsOf es))) (outcome 5 0 s)
+
+said-settled : (s : State) (es : List Entry) (w t : Bool) → said w (cond t (outcome 0 (jointWord es) (pushAll s (elementsOf es))) (outcome 5 0 s)) ≡ settled s es w t
+said-settled s es true true = refl
+said-settled s es true false = refl
+said-settled s es false true = refl
+said-settled s es false false = refl
+
+module _ {C : Type 0} {step : State → C → Outcome} {entries : Bool → Point → C → List Entry} {worded : C → Bool} (given : GivenByEntries step entries worded) (vn fn : ℕ) where
   same-go : (s : State) (k : Book) (c : C) (es : List Entry) → (isNil es ≡ false → Spot s k) → entries (isNil es) (s .builder .pen) c ≡ entries (isNil es) (k .pen) c
   same-go s k c [] f = given .no-pen c (s .builder .pen) (k .pen)
   same-go s k c (e ∷ es) f = ap (λ (p : Point). entries false p c) (f refl .pen)
@@ -100,22 +98,26 @@ module _ {C : Type 0} {entries : Bool → Point → C → List Entry} (given : G
   same-entries : (s : State) (k : Book) (c : C) → Holds vn fn s k → entries (isEmpty (s .builder)) (s .builder .pen) c ≡ added entries k c
   same-entries s k c h = ap (λ (b : Bool). entries b (s .builder .pen) c) (empty-is h) ∙ same-go s k c (k .entries) (h .spot)
 
-  call-is : (s : State) (k : Book) (c : C) → Holds vn fn s k
-      → stepBy entries s c ≡ cond (accepts vn fn k (added entries k c)) (outcome 0 (jointWord (added entries k c)) (pushAll s (elementsOf (added entries k c)))) (outcome 5 0 s)
-  call-is s k c h = ap (attempt s) (same-entries s k c h) ∙ attempt-is (added entries k c) h
+  call-is : (s : State) (k : Book) (c : C) → Holds vn fn s k → let es = added entries k c in step s c ≡ settled s es (worded c) (accepts vn fn k es)
+  call-is s k c h =
+      let es = added entries k c in
+      given .given s c
+      ∙ ap (λ (ds : List Entry). said (worded c) (attempt s ds)) (same-entries s k c h)
+      ∙ ap (said (worded c)) (attempt-is es h)
+      ∙ said-settled s es (worded c) (accepts vn fn k es)
 
   spot-go : (s : State) (k : Book) (c : C) (es : List Entry) → (isNil es ≡ false → Spot s k) → isNil (es ++ entries (isNil es) (k .pen) c) ≡ false → Spot (pushAll s (elementsOf (entries (isNil es) (k .pen) c))) (grown k (entries (isNil es) (k .pen) c))
   spot-go s k c [] f n =
       let ks = elementsOf (entries true (k .pen) c) in
       let g = opens-anywhere (s .builder .start) (s .builder .pen) (k .start) (k .pen) ks (given .opens c (k .pen)) (some (entries true (k .pen) c) n) in
-      record { start = push-start s ks ∙ g .start; pen = push-pen s ks ∙ g .pen }
+      record { start = push-all-start s ks ∙ g .start; pen = push-all-pen s ks ∙ g .pen }
   spot-go s k c (x ∷ es) f n =
       let ks = elementsOf (entries false (k .pen) c) in
       let g = f refl in
-      record { start = push-start s ks ∙ ap (λ (p : Point). lastStart p ks) (g .start); pen = push-pen s ks ∙ ap₂ (λ (p q : Point). lastPen p q ks) (g .start) (g .pen) }
+      record { start = push-all-start s ks ∙ ap (λ (p : Point). startAfter p ks) (g .start); pen = push-all-pen s ks ∙ ap₂ (λ (p q : Point). penAfter p q ks) (g .start) (g .pen) }
 
   kept-go : (s : State) (k : Book) (c : C) (t : Bool) → Holds vn fn s k → accepts vn fn k (added entries k c) ≡ t
-      → Holds vn fn (cond t (outcome 0 (jointWord (added entries k c)) (pushAll s (elementsOf (added entries k c)))) (outcome 5 0 s) .state) (cond t (grown k (added entries k c)) k)
+      → Holds vn fn (settled s (added entries k c) (worded c) t .state) (cond t (grown k (added entries k c)) k)
   unfolding fitsIn
   kept-go s k c true h e =
       let es = added entries k c in
@@ -135,16 +137,20 @@ module _ {C : Type 0} {entries : Bool → Point → C → List Entry} (given : G
       }
   kept-go s k c false h e = h
 
-  says-go : (s : State) (k : Book) (es : List Entry) (t : Bool) → let o = cond t (outcome 0 (jointWord es) (pushAll s (elementsOf es))) (outcome 5 0 s) in reply (o .number) (o .word) ≡ cond t (reply 0 (jointWord es)) (reply 5 0)
-  says-go s k es true = refl
-  says-go s k es false = refl
+  says-go : (s : State) (es : List Entry) (w t : Bool) → let o = settled s es w t in reply (o .number) (o .word) ≡ cond t (reply 0 (cond w (jointWord es) 0)) (reply 5 0)
+  says-go s es w true = refl
+  says-go s es w false = refl
 
-  pub given-simulates : Simulates (building entries) (bookkeeping entries vn fn) (Holds vn fn)
+  pub given-simulates : Simulates (building step) (bookkeeping entries worded vn fn) (Holds vn fn)
   given-simulates = record {
-    keeps = λ s k c h. subst (λ (o : Outcome). Holds vn fn (o .state) (bookkeeping entries vn fn .step k c)) (sym (call-is s k c h)) (kept-go s k c _ h refl);
-    agrees = λ s k c h. ap (λ (o : Outcome). reply (o .number) (o .word)) (call-is s k c h) ∙ says-go s k (added entries k c) (accepts vn fn k (added entries k c));
+    keeps = λ s k c h. subst (λ (o : Outcome). Holds vn fn (o .state) (bookkeeping entries worded vn fn .step k c)) (sym (call-is s k c h)) (kept-go s k c _ h refl);
+    agrees = λ s k c h. ap (λ (o : Outcome). reply (o .number) (o .word)) (call-is s k c h) ∙ says-go s (added entries k c) (worded c) (accepts vn fn k (added entries k c));
   }
 
   -- where the book has no room nothing changes
-  pub refused-same : (s : State) (k : Book) (c : C) → Holds vn fn s k → accepts vn fn k (added entries k c) ≡ false → building entries .step s c ≡ s
-  refused-same s k c h e = ap (λ (o : Outcome). o .state) (call-is s k c h ∙ ap (λ (t : Bool). cond t (outcome 0 (jointWord (added entries k c)) (pushAll s (elementsOf (added entries k c)))) (outcome 5 0 s)) e)
+  pub refused-same : (s : State) (k : Book) (c : C) → Holds vn fn s k → accepts vn fn k (added entries k c) ≡ false → step s c .state ≡ s
+  refused-same s k c h e = ap (λ (o : Outcome). o .state) (call-is s k c h ∙ ap (settled s (added entries k c) (worded c)) e)
+
+  -- the joint word of an accepted call
+  pub accepted-word : (s : State) (k : Book) (c : C) → Holds vn fn s k → accepts vn fn k (added entries k c) ≡ true → step s c .word ≡ cond (worded c) (jointWord (added entries k c)) 0
+  accepted-word s k c h e = ap (λ (o : Outcome). o .word) (call-is s k c h ∙ ap (settled s (added entries k c) (worded c)) e)

@@ -65,11 +65,11 @@ lowered-curve l c e =
     subst (λ (x : Lowered). LoweredTo x (quadsOf ps) (length ps) (2 * length ps) (wordOf ps)) (sym e)
     record { elements = refl; many = quads-length ps; size = quads-sizes ps; word = ap wordOf (pieces-all ps) }
 
-line-or-quads-go : (c : Conic) (t : Bool) → isLine c ≡ t → LineOrQuads c (loweredOf (cond t (lowered.Line (c .to)) (lowered.Curve c)))
-unfolding loweredOf
+line-or-quads-go : (c : Conic) (t : Bool) → isLine c ≡ t → let es = loweredOf (cond t (lowered.Line (c .to)) (lowered.Curve c)) in LineOrQuads c es (jointWord es)
+unfolding loweredOf piecesIn wordOf
 line-or-quads-go c true e = one-line e
-line-or-quads-go c false e = quads e (whole-conic c)
+line-or-quads-go c false e = subst (λ (ps : List Piece). LineOrQuads c (map piece (piecesOf c)) (wordOf ps)) (sym (pieces-all (piecesOf c))) (quads e (whole-conic c))
 
-pub line-or-quads : (c : Conic) → LineOrQuads c (loweredOf (lowerOf c))
+pub line-or-quads : (c : Conic) → LineOrQuads c (loweredOf (lowerOf c)) (jointWord (loweredOf (lowerOf c)))
 unfolding lowerOf
 line-or-quads c = line-or-quads-go c (isLine c) refl

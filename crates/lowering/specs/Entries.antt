@@ -46,7 +46,8 @@ unfoldable pub loweredOf : Lowered → List Entry
 loweredOf (lowered.Line p) = plain (Line p) ∷ []
 loweredOf (lowered.Curve c) = map piece (piecesOf c)
 
--- what document 01 says of a conic's entries: one line to the target, or 1 to 64 quads
-pub data LineOrQuads (c : Conic) : List Entry → Type 0 where
-  one-line : isLine c ≡ true → LineOrQuads c (plain (Line (c .to)) ∷ [])
-  quads : {ps : List Piece} → isLine c ≡ false → WholeConic c ps → LineOrQuads c (map piece ps)
+-- what document 01 says of a conic's entries and joint word: one line to the target and 0, or the 1 to 64 quads of the halving and the starts of
+-- their spans
+pub data LineOrQuads (c : Conic) : List Entry → ℕ → Type 0 where
+  one-line : isLine c ≡ true → LineOrQuads c (plain (Line (c .to)) ∷ []) 0
+  quads : isLine c ≡ false → WholeConic c (piecesOf c) → LineOrQuads c (map piece (piecesOf c)) (wordOf (piecesOf c))

@@ -9,7 +9,7 @@ use denote.Enum.Declared.{tagOf}
 use Rattle.stream.specs.declared.Builder.{Builder}
 use Rattle.stream.specs.declared.Element.{Element}
 use Rattle.stream.specs.declared.Need.{Need}
-use Rattle.stream.specs.Stream.{State, origin, needOf, pushAll, Fits}
+use Rattle.stream.specs.Stream.{State, origin, needOf, pushAll, Fits, startAfter, penAfter}
 use Rattle.stream.proofs.Tests.{room-is}
 use Rattle.lowering.specs.Entries.{elementsOf}
 use Rattle.calls.specs.declared.Built.{Built}
@@ -20,8 +20,9 @@ use Rattle.calls.proofs.Admission.{Admitted, admitted-for, refused-is, done-is}
 use Rattle.shape.specs.declared.RoundSuperellipse.{RoundSuperellipse}
 use Rattle.corners.specs.declared.Outline.{Outline}
 use Rattle.corners.specs.Calls.{Drawing, drawingOf, callsIn, outlineOf, outlineCalls}
-use Rattle.contour.specs.Entries.{startAfter, penAfter, entriesAlong, outlineEntries, elementsAlong, pushCalls, RoomAlong}
-use Rattle.outline.specs.Step.{wordless, outlineStep}
+use Rattle.contour.specs.Entries.{entriesAlong, outlineEntries, elementsAlong, pushCalls, RoomAlong}
+use Rattle.outline.specs.declared.BuildingCall.the-variants.{AddTo}
+use Rattle.outline.specs.Step.{wordless, step}
 
 -- a call other than a conic has no word
 built-wordless : (r : Built) (vs : List ℕ) (fs : List Float) → outcomeOf r vs fs ≡ wordless (outcomeOf r vs fs)
@@ -48,8 +49,8 @@ module _ (s : State) (shape : RoundSuperellipse) (o : Outline) (e : drawingOf o 
   unfolding outlineEntries outlineCalls
   drawn-is = ap (λ (d : Drawing). elementsOf (entriesAlong origin origin (callsIn d))) e
 
-  pub outline-refused : (n : Need) (r : Built) → n ≡ needOf drawn → r ≡ here n → OneOf (1 ∷ 2 ∷ []) (tagOf the-type r) → outcomeOf r (s .verbs) (s .floats) ≡ outlineStep s shape
-  unfolding outlineStep
+  pub outline-refused : (n : Need) (r : Built) → n ≡ needOf drawn → r ≡ here n → OneOf (1 ∷ 2 ∷ []) (tagOf the-type r) → outcomeOf r (s .verbs) (s .floats) ≡ step s (AddTo shape)
+  unfolding step
   outline-refused n r f a h =
       built-wordless r (s .verbs) (s .floats) ∙ ap wordless (refused-is s (outlineEntries shape) r h (a ∙ ap (λ (x : Need). here x) (f ∙ ap needOf drawn-is)))
 
@@ -60,6 +61,6 @@ module _ (s : State) (shape : RoundSuperellipse) (o : Outline) (e : drawingOf o 
   outline-room h =
       subst (λ (ks : List Element). Fits (s .builder) (s .verbs) (s .floats) ks) (sym (drawn-anywhere s (drawingOf o) ∙ drawn-is)) (room-is (s .builder) (length (s .verbs)) (length (s .floats)) (needOf (elementsOf (outlineEntries shape))) (h .room))
 
-  pub outline-done : (t : State) → AdmittedHere → t ≡ pushCalls s (callsIn (drawingOf o)) → outcome 0 0 t ≡ outlineStep s shape
-  unfolding outlineStep pushCalls
+  pub outline-done : (t : State) → AdmittedHere → t ≡ pushCalls s (callsIn (drawingOf o)) → outcome 0 0 t ≡ step s (AddTo shape)
+  unfolding step pushCalls
   outline-done t h f = ap wordless (done-is s (outlineEntries shape) t h (f ∙ ap (pushAll s) (drawn-anywhere s (drawingOf o) ∙ drawn-is)))

@@ -6,7 +6,7 @@ ghost use Rattle.stream.specs.Stream.{state};
 ghost use Rattle.calls.specs.Calls.{outcomeOf};
 ghost use Rattle.corners.specs.Calls.{conicCall, callsForwards, callsBackwards, callsOf, callLists, drawingOf, callsIn};
 ghost use Rattle.contour.specs.Entries.{pushCalls, RoomAlong};
-ghost use Rattle.outline.specs.Step.{outlineStep};
+ghost use Rattle.outline.specs.Step.{step};
 use calls::Built;
 use conic::Conic;
 use corners::Backwards;
@@ -18,6 +18,17 @@ use corners::Outline;
 use geometry::Point;
 use shape::RoundSuperellipse;
 use stream::Builder;
+
+// A building call as a value: the six of path.rs, and the outline of a shape.
+pub enum BuildingCall {
+    MoveTo(Point),
+    LineTo(Point),
+    QuadTo(Point, Point),
+    ConicTo(Point, Point, f32),
+    CubicTo(Point, Point, Point),
+    Close,
+    AddTo(RoundSuperellipse),
+}
 
 // A conic from the pen, behind the held elements, for which there is room.
 fn push_conic(b: Builder, verbs: &mut [u8], points: &mut [f32], arc: ConicArc) -> Builder
@@ -100,10 +111,9 @@ fn push_outline(b: Builder, verbs: &mut [u8], points: &mut [f32], o: Outline) ->
     stream::push_close(b3, verbs, points)
 }
 
-// The outline behind the held elements: a move, four corners, a line to the move's point, a close. It becomes
-// public with the theorem on lists of the seven calls.
-fn add_to(shape: RoundSuperellipse, b: Builder, verbs: &mut [u8], points: &mut [f32]) -> Built
-    ensures { λ r. ⌜ outcomeOf r (now (verbs .exit)) (now (points .exit)) ≡ outlineStep (state b (now (verbs .entry)) (now (points .entry))) shape ⌝ }
+// The outline behind the held elements: a move, four corners, a line to the move's point, a close.
+pub fn add_to(shape: RoundSuperellipse, b: Builder, verbs: &mut [u8], points: &mut [f32]) -> Built
+    ensures { λ r. ⌜ outcomeOf r (now (verbs .exit)) (now (points .exit)) ≡ step (state b (now (verbs .entry)) (now (points .entry))) (BuildingCall.AddTo shape) ⌝ }
 {
     let o = corners::draw(shape);
     let a = calls::admit(b, verbs.len(), points.len(), contour::outline_need(o));

@@ -9,7 +9,7 @@ use lib.Ieee.{Float}
 use Rattle.stream.specs.declared.Builder.{Builder}
 use Rattle.stream.specs.declared.Element.{Element}
 use Rattle.stream.specs.declared.Element.the-variants.{Move, Line, Quad, Cubic, Close}
-use Rattle.stream.specs.Stream.{put, verbOf, floatsOf, sizeOf, sizesOf, pointCount, advanceOf, State, state, push, pushAll}
+use Rattle.stream.specs.Stream.{put, verbOf, floatsOf, sizeOf, sizesOf, pointCount, startAfter, penAfter, advanceOf, State, state, push, pushAll}
 use Rattle.stream.proofs.Put.{put-one}
 
 -- a verb's points are its element's
@@ -57,7 +57,7 @@ unfolding sizesOf
 sizes-append [] js = omega arith
 sizes-append (k ∷ ks) js = omega (arith, sizes-append ks js)
 
--- the counts after it
+-- the counts, the start and the pen after it
 pub push-all-verbs : (s : State) (ks : List Element) → pushAll s ks .builder .verbs ≡ s .builder .verbs + length ks
 unfolding pushAll push advanceOf
 push-all-verbs s [] = omega arith
@@ -67,3 +67,13 @@ pub push-all-points : (s : State) (ks : List Element) → pushAll s ks .builder 
 unfolding pushAll push advanceOf sizesOf
 push-all-points s [] = omega arith
 push-all-points s (k ∷ ks) = push-all-points (push s k) ks ∙ omega arith
+
+pub push-all-start : (s : State) (ks : List Element) → pushAll s ks .builder .start ≡ startAfter (s .builder .start) ks
+unfolding pushAll push advanceOf startAfter
+push-all-start s [] = refl
+push-all-start s (k ∷ ks) = push-all-start (push s k) ks
+
+pub push-all-pen : (s : State) (ks : List Element) → pushAll s ks .builder .pen ≡ penAfter (s .builder .start) (s .builder .pen) ks
+unfolding pushAll push advanceOf penAfter
+push-all-pen s [] = refl
+push-all-pen s (k ∷ ks) = push-all-pen (push s k) ks

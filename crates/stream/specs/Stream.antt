@@ -95,6 +95,15 @@ penOf s (Quad p q) = q
 penOf s (Cubic p q r) = r
 penOf s Close = s
 
+-- where elements leave the start, which was at s, and the pen, which was at p
+unfoldable pub startAfter : Point → List Element → Point
+startAfter s [] = s
+startAfter s (k ∷ ks) = startAfter (startOf s k) ks
+
+unfoldable pub penAfter : Point → Point → List Element → Point
+penAfter s p [] = p
+penAfter s p (k ∷ ks) = penAfter (startOf s k) (penOf s k) ks
+
 -- the record after one element more
 unfoldable pub advanceOf : Builder → Element → Builder
 advanceOf b k = record { verbs = b .verbs + 1; points = b .points + sizeOf k; start = startOf (b .start) k; pen = penOf (b .start) k }

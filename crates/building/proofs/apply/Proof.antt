@@ -1,10 +1,10 @@
-use Rattle.calls.proofs.Opened.{no-word}
-use Rattle.calls.specs.Calls.{step}
-use Rattle.stream.specs.Stream.{State, state}
 use mathlib.Core.Path.{sym, ap, _∙_}
+use Rattle.stream.specs.Stream.{state}
+use Rattle.calls.proofs.Opened.{no-word}
+use Rattle.outline.specs.Step.{step}
 use borrow.Author.Needs.{needs}
-use Rattle.lists.proofs.apply.Statement.{statement}
-use Rattle.lists.proofs.apply.Tie as tie
+use Rattle.building.proofs.apply.Statement.{statement}
+use Rattle.building.proofs.apply.Tie as tie
 
 enum-known-call : tie.Need-enum-known-call
 enum-known-call c = search needs
@@ -57,6 +57,15 @@ close-requires c κs = search needs
 with-word-requires-5 : tie.Need-with-word-requires-5
 with-word-requires-5 c κs = search needs
 
+enum-known-call-6 : tie.Need-enum-known-call-6
+enum-known-call-6 c = search needs
+
+add-to-requires : tie.Need-add-to-requires
+add-to-requires c κs = search needs
+
+with-word-requires-6 : tie.Need-with-word-requires-6
+with-word-requires-6 c κs = search needs
+
 same-length : tie.Need-same-length
 same-length c = search needs
 
@@ -64,6 +73,7 @@ same-length-2 : tie.Need-same-length-2
 same-length-2 c = search needs
 
 returns : tie.Need-returns
+unfolding step
 returns c =
     let a = c .before .before .before .before .before .before .before .before .before .before .before .before .before .args in
     no-word _ (c .before .before .before .before .before .move-to .result) _ _ (c .with-word .ensures) ∙ c .before .before .before .before .before .move-to .ensures ∙ ap (step (state (a .b) (a .verbs .now) (a .points .now))) (sym (c .before .before .before .before .before .before .before .before .before .call .given .1))
@@ -75,6 +85,7 @@ same-length-4 : tie.Need-same-length-4
 same-length-4 c = search needs
 
 returns-2 : tie.Need-returns-2
+unfolding step
 returns-2 c =
     let a = c .before .before .before .before .before .before .before .before .before .before .before .before .before .args in
     no-word _ (c .before .before .before .before .before .line-to .result) _ _ (c .with-word2 .ensures) ∙ c .before .before .before .before .before .line-to .ensures ∙ ap (step (state (a .b) (a .verbs .now) (a .points .now))) (sym (c .before .before .before .before .before .before .before .before .before .call2 .given .1))
@@ -86,6 +97,7 @@ same-length-6 : tie.Need-same-length-6
 same-length-6 c = search needs
 
 returns-3 : tie.Need-returns-3
+unfolding step
 returns-3 c =
     let a = c .before .before .before .before .before .before .before .before .before .before .before .before .before .args in
     no-word _ (c .before .before .before .before .before .quad-to .result) _ _ (c .with-word3 .ensures) ∙ c .before .before .before .before .before .quad-to .ensures ∙ ap (step (state (a .b) (a .verbs .now) (a .points .now))) (sym (c .before .before .before .before .before .before .before .before .before .call3 .given .1))
@@ -97,6 +109,7 @@ same-length-8 : tie.Need-same-length-8
 same-length-8 c = search needs
 
 returns-4 : tie.Need-returns-4
+unfolding step
 returns-4 c =
     let a = c .before .before .before .before .before .before .before .before .before .before .before .before .args in
     c .before .before .before .before .conic-to .ensures ∙ ap (step (state (a .b) (a .verbs .now) (a .points .now))) (sym (c .before .before .before .before .before .before .before .before .call4 .given .1))
@@ -108,6 +121,7 @@ same-length-10 : tie.Need-same-length-10
 same-length-10 c = search needs
 
 returns-5 : tie.Need-returns-5
+unfolding step
 returns-5 c =
     let a = c .before .before .before .before .before .before .before .before .before .before .before .before .before .args in
     no-word _ (c .before .before .before .before .before .cubic-to .result) _ _ (c .with-word4 .ensures) ∙ c .before .before .before .before .before .cubic-to .ensures ∙ ap (step (state (a .b) (a .verbs .now) (a .points .now))) (sym (c .before .before .before .before .before .before .before .before .before .call5 .given .1))
@@ -119,9 +133,22 @@ same-length-12 : tie.Need-same-length-12
 same-length-12 c = search needs
 
 returns-6 : tie.Need-returns-6
+unfolding step
 returns-6 c =
     let a = c .before .before .before .before .before .before .before .before .before .before .before .before .args in
     no-word _ (c .before .before .before .before .before .close .result) _ _ (c .with-word5 .ensures) ∙ c .before .before .before .before .before .close .ensures ∙ ap (step (state (a .b) (a .verbs .now) (a .points .now))) (sym (c .before .before .before .before .before .before .before .before .enum-told .given .1))
+
+same-length-13 : tie.Need-same-length-13
+same-length-13 c = search needs
+
+same-length-14 : tie.Need-same-length-14
+same-length-14 c = search needs
+
+returns-7 : tie.Need-returns-7
+unfolding step
+returns-7 c =
+    let a = c .before .before .before .before .before .before .before .before .before .before .before .before .before .args in
+    no-word _ (c .before .before .before .before .before .add-to .result) _ _ (c .with-word6 .ensures) ∙ c .before .before .before .before .before .add-to .ensures ∙ ap (step (state (a .b) (a .verbs .now) (a .points .now))) (sym (c .before .before .before .before .before .before .before .before .before .call6 .given .1))
 
 pub apply-spec : {M : Type 1} → statement M
 apply-spec =
@@ -144,6 +171,9 @@ apply-spec =
     enum-told
     close-requires
     with-word-requires-5
+    enum-known-call-6
+    add-to-requires
+    with-word-requires-6
     same-length
     same-length-2
     returns
@@ -161,4 +191,7 @@ apply-spec =
     returns-5
     same-length-11
     same-length-12
-    returns-6)
+    returns-6
+    same-length-13
+    same-length-14
+    returns-7)

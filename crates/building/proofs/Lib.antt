@@ -1,0 +1,5 @@
+-- Every list of the seven building calls.
+pub mod Corner
+pub mod Six
+pub mod Seven
+pub mod Demand3
