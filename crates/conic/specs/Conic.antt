@@ -13,7 +13,7 @@ use Rattle.conic.specs.declared.Lowered.{Lowered}
 use Rattle.conic.specs.declared.Lowered.the-variants.{Line, Curve}
 
 -- 0.0, 2.0, 0.5, 0.25 and 1e-3
-abbrev zero : Float
+abbrev pub zero : Float
 zero = ofBits binary32 0
 
 abbrev two : Float
@@ -25,7 +25,7 @@ half = ofBits binary32 0x3f00_0000
 abbrev quarter : Float
 quarter = ofBits binary32 0x3e80_0000
 
-abbrev thousandth : Float
+abbrev pub thousandth : Float
 thousandth = ofBits binary32 0x3a83_126f
 
 -- a weight not finite or at most 0, or a control or target not finite; the pen, c .from, is not tested

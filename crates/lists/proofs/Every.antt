@@ -34,7 +34,7 @@ sizes-count (Close ∷ ks) = omega (arith, sizes-count ks)
 
 -- ---- every list
 
-holds-none : (b : Builder) (vs : List ℕ) (fs : List Float) → IsEmpty b → Holds (length vs) (length fs) (state b vs fs) emptyBook
+pub holds-none : (b : Builder) (vs : List ℕ) (fs : List Float) → IsEmpty b → Holds (length vs) (length fs) (state b vs fs) emptyBook
 unfolding elementsOf
 holds-none b vs fs e = record { vlen = refl; flen = refl; holding = holding-none (state b vs fs) (e .0) (e .1); spot = λ n. let z : _≡_ {A = ℕ} 0 1 = cc in absurd (omega arith) }
 
@@ -43,7 +43,7 @@ number-is true w = refl
 number-is false w = refl
 
 module _ {C : Type 0} {step : State → C → Outcome} {entries : Bool → Point → C → List Entry} {worded : C → Bool} (given : GivenByEntries step entries worded) where
-  each-call : (vn fn : ℕ) (s : State) (k : Book) (c : C) → Holds vn fn s k → EachCall step entries worded vn fn s k c
+  pub each-call : (vn fn : ℕ) (s : State) (k : Book) (c : C) → Holds vn fn s k → EachCall step entries worded vn fn s k c
   each-call vn fn s k c h =
       let es = added entries k c in
       record {
