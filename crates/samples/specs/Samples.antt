@@ -1,19 +1,30 @@
--- Document 01's samples a to e: a conic on an empty builder. Definitions only.
+-- Document 01's samples a to j as one table, each row by its letter. Definitions only.
 use mathlib.Core.Path.{_≡_}
 use mathlib.Core.List.{List, [], _∷_}
-use mathlib.Core.Bool.{true}
+use mathlib.Core.Bool.{true, false}
 use Prim.Native.Nat.{ℕ, _-_, _^_}
 use lib.ListN.{length, replicate}
-use lib.Ieee.{Float, binary32, ofBits, nan}
+use lib.Ieee.{Float, binary32, ofBits, nan, lt}
 use Rattle.geometry.specs.declared.Point.{Point}
 use Rattle.stream.specs.declared.Element.{Element}
-use Rattle.stream.specs.declared.Element.the-variants.{Move, Line, Quad}
+use Rattle.octant.specs.declared.Octant.{Octant}
+use Rattle.octant.specs.Degree.{cornerAt, firstMaxRatio, secondMaxRatio, nAndXjOf}
+use Rattle.octant.specs.Octant.{closeEnough, computeOctantOf}
+use Rattle.arcs.specs.Conics.{superellipseConicFactorsOf}
+use Rattle.shape.specs.declared.Bounds.{Bounds}
+use Rattle.shape.specs.declared.CornerRadii.{CornerRadii}
+use Rattle.shape.specs.declared.RoundSuperellipse.{RoundSuperellipse}
+use Rattle.shape.specs.Shape.{shapeOf}
+use Rattle.shape.specs.Refusal.{made, newOf}
+use Rattle.containment.specs.Contains.{containsOf}
+use Rattle.stream.specs.declared.Element.the-variants.{Move, Line, Quad, Close}
 use Rattle.stream.specs.Stream.{State, state, freshBuilder, origin, sizesOf}
 use Rattle.lowering.specs.Entries.{Entry, elementsOf, jointWord}
 use Rattle.calls.specs.declared.Call.the-variants.{ConicTo}
 use Rattle.calls.specs.Calls.{entriesOf, step}
+use Rattle.contour.specs.Entries.{outlineEntries}
 
--- 0.0, 1.0, 2.0 and 3.0
+-- 0.0, 1.0, 2.0, 3.0, 5.0 and 10.0
 abbrev pub zero : Float
 zero = ofBits binary32 0
 
@@ -26,6 +37,12 @@ two = ofBits binary32 0x4000_0000
 abbrev pub three : Float
 three = ofBits binary32 0x4040_0000
 
+abbrev pub five : Float
+five = ofBits binary32 0x40a0_0000
+
+abbrev pub ten : Float
+ten = ofBits binary32 0x4120_0000
+
 abbrev pub at : Float → Float → Point
 at a b = record { x = a; y = b }
 
@@ -37,7 +54,32 @@ conic ctrl to weight = entriesOf true origin (ConicTo ctrl to weight)
 abbrev pub lent : ℕ → ℕ → State
 lent v f = state freshBuilder (replicate v 0) (replicate f zero)
 
-pub record SamplesAToE : Type 0 where
+-- the program's shape: min (0, 0), max (10, 10), all radii 0
+abbrev pub bounds : Bounds
+bounds = record { min = origin; max = at ten ten }
+
+abbrev pub radii : CornerRadii
+radii = record { «top_left» = origin; «top_right» = origin; «bottom_left» = origin; «bottom_right» = origin }
+
+abbrev pub shape : RoundSuperellipse
+shape = shapeOf bounds radii
+
+abbrev pub squareOutline : List Element
+squareOutline =
+    Move (at five zero)
+    ∷ Line (at ten zero)
+    ∷ Line (at ten five)
+    ∷ Line (at ten ten)
+    ∷ Line (at five ten)
+    ∷ Line (at zero ten)
+    ∷ Line (at zero five)
+    ∷ Line (at zero zero)
+    ∷ Line (at five zero)
+    ∷ Line (at five zero)
+    ∷ Close
+    ∷ []
+
+pub record Samples : Type 0 where
   -- weight 1: move, quad; word 1
   pub a : elementsOf (conic (at one zero) (at two zero) one) ≡ Move origin ∷ Quad (at one zero) (at two zero) ∷ []
   pub a-word : jointWord (conic (at one zero) (at two zero) one) ≡ 1
@@ -56,3 +98,18 @@ pub record SamplesAToE : Type 0 where
   -- weight NaN: as b
   pub e : elementsOf (conic (at one zero) (at two zero) nan) ≡ elementsOf (conic (at one zero) (at two zero) zero)
   pub e-word : jointWord (conic (at one zero) (at two zero) nan) ≡ 0
+  -- ratio 5: degree 6.430238, last row; ratio 2.5: 2.7514899
+  pub f : nAndXjOf secondMaxRatio .n ≡ ofBits binary32 0x40cd_c482
+  pub f-row : nAndXjOf secondMaxRatio .n ≡ cornerAt 10 0
+  pub f-first : nAndXjOf firstMaxRatio .n ≡ ofBits binary32 0x4030_1869
+  -- degree 3: first conic weight 0.7895, wherever the circle starts
+  pub g : (start : Float) → superellipseConicFactorsOf three start .weight1 ≡ ofBits binary32 0x3f4a_1cac
+  -- an octant with half-extent 1 and radius 1e-3: square, degree 0; at the next float the degree is above 2
+  pub h : (center : Point) → computeOctantOf center one closeEnough .«se_n» ≡ zero
+  pub h-next : (center : Point) → lt two (computeOctantOf center one (ofBits binary32 0x3a83_1270) .«se_n») ≡ true
+  -- the program's shape: its outline's ten points
+  pub i : elementsOf (outlineEntries shape) ≡ squareOutline
+  -- that shape is made; in it (0, 10) is outside, (5, 5) inside
+  pub j-made : newOf bounds radii ≡ made shape
+  pub j-outside : containsOf shape (at zero ten) ≡ false
+  pub j-inside : containsOf shape (at five five) ≡ true

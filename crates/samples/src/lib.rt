@@ -1,2 +1,2 @@
-// Document 01's samples a to e, over the definitions alone: specs/Samples.antt says what they are and
-// proofs/Computed.antt computes them.
+// Document 01's samples a to j, over the definitions alone: specs/Samples.antt is the table and proofs/Computed.antt
+// computes it.
