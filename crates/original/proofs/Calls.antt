@@ -12,8 +12,7 @@ use Rattle.conic.specs.declared.Lowered.the-variants as lowered
 use Rattle.conic.specs.Conic.{isLine, lowerOf}
 use Rattle.stream.specs.declared.Element.{Element}
 use Rattle.stream.specs.declared.Element.the-variants.{Move, Line, Quad, Cubic, Close}
-use Rattle.stream.specs.Stream.{origin, startAfter, penAfter, startOf, penOf, verbOf, pointsOf}
-use Rattle.reader.proofs.Holding.{bytesOf}
+use Rattle.stream.specs.Stream.{origin, startAfter, penAfter, startOf, penOf, verbOf, pointsOf, bytesOf}
 use Rattle.lowering.specs.Entries.{Entry, plain, elementsOf, loweredOf}
 use Rattle.lowering.proofs.Entries.{elements-append}
 use Rattle.calls.specs.declared.Call.{Call}

@@ -9,8 +9,7 @@ use lib.Ieee.{Float}
 use Rattle.geometry.specs.declared.Point.{Point}
 use Rattle.stream.specs.declared.Builder.{Builder}
 use Rattle.stream.specs.declared.Element.{Element}
-use Rattle.stream.specs.Stream.{State, state, startAfter, penAfter, floatsIn, sizesOf}
-use Rattle.reader.proofs.Holding.{bytesOf, allFloats}
+use Rattle.stream.specs.Stream.{State, state, startAfter, penAfter, floatsIn, sizesOf, bytesOf, allFloats}
 use Rattle.lowering.specs.Entries.{Entry, elementsOf}
 use Rattle.lowering.proofs.Entries.{elements-append}
 use Rattle.outline.specs.declared.BuildingCall.{BuildingCall}

@@ -9,14 +9,14 @@ use lib.ListN.{length, take, drop, getD, length-append}
 use lib.Seq.{slice, take-suc, take-add}
 use lib.Ieee.{Float}
 use Rattle.stream.specs.declared.Element.{Element}
-use Rattle.stream.specs.Stream.{State, verbOf, floatsOf, sizeOf, sizesOf, pointCount, badState}
+use Rattle.stream.specs.Stream.{State, verbOf, floatsOf, sizeOf, sizesOf, pointCount, badState, bytesOf, allFloats}
 use Rattle.stream.proofs.Tests.{good-record}
 use Rattle.stream.proofs.Push.{count-verb, sizes-append, sizes-one}
 use Rattle.reader.specs.declared.Cursor.{Cursor}
 use Rattle.reader.specs.Reading.{Answer, ok, refused, Item, item, end, cursor, elementAt, readAt, prepend, follow, readFrom, readAll, Reads, ends, more}
 use Rattle.reader.proofs.Reader.{View, bad, past, malformed, found, view, byteAt, read-from}
 use Rattle.reader.proofs.Parts.{take-drop, element-part, enough}
-use Rattle.reader.proofs.Holding.{bytesOf, allFloats, bytes-append, floats-append, bytes-one, floats-one, Holding, cursorPast}
+use Rattle.reader.proofs.Holding.{bytes-append, floats-append, bytes-one, floats-one, Holding, cursorPast}
 
 -- ---- what is read as a whole reads one by one
 

@@ -13,7 +13,7 @@ use Rattle.geometry.specs.declared.Point.{Point}
 use Rattle.stream.specs.declared.Builder.{Builder}
 use Rattle.stream.specs.declared.Element.{Element}
 use Rattle.stream.specs.declared.Element.the-variants.{Move, Line, Quad, Cubic, Close}
-use Rattle.stream.specs.Stream.{put, verbOf, pointsOf, floatsOf, sizeOf, sizesOf, pointCount, badRecord, advanceOf, State, state, push, pushAll, badState, Fits}
+use Rattle.stream.specs.Stream.{put, verbOf, pointsOf, floatsOf, bytesOf, allFloats, sizeOf, sizesOf, pointCount, badRecord, advanceOf, State, state, push, pushAll, badState, Fits}
 use Rattle.stream.proofs.Put.{length-put, take-grown}
 use Rattle.stream.proofs.Past.{length-floats}
 use Rattle.stream.proofs.Push.{count-verb, sizes-cons, sizes-one, sizes-append}
@@ -22,14 +22,6 @@ use Rattle.reader.specs.Reading.{Answer, ok, refused, Item, item, end, c
 use Rattle.reader.proofs.Reader.{byteAt, read-past, read-found, read-from}
 
 -- ---- the bytes and the floats of a list of elements
-
-unfoldable pub bytesOf : List Element → List ℕ
-bytesOf [] = []
-bytesOf (k ∷ ks) = verbOf k ∷ bytesOf ks
-
-unfoldable pub allFloats : List Element → List Float
-allFloats [] = []
-allFloats (k ∷ ks) = floatsOf k ++ allFloats ks
 
 pub bytes-append : (ks js : List Element) → bytesOf (ks ++ js) ≡ bytesOf ks ++ bytesOf js
 unfolding bytesOf

@@ -41,6 +41,15 @@ floatsIn (p ∷ ps) = p .x ∷ p .y ∷ floatsIn ps
 abbrev pub floatsOf : Element → List Float
 floatsOf k = floatsIn (pointsOf k)
 
+-- the bytes and the floats of a list of elements
+unfoldable pub bytesOf : List Element → List ℕ
+bytesOf [] = []
+bytesOf (k ∷ ks) = verbOf k ∷ bytesOf ks
+
+unfoldable pub allFloats : List Element → List Float
+allFloats [] = []
+allFloats (k ∷ ks) = floatsOf k ++ allFloats ks
+
 -- how many points an element has, and a list of elements
 abbrev pub sizeOf : Element → ℕ
 sizeOf k = length (pointsOf k)

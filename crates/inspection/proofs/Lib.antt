@@ -1,0 +1,2 @@
+-- Laws of an outline drawn into buffers that hold the largest one.
+pub mod Drawn
