@@ -20,15 +20,14 @@ pub enum Kind {
     Asked,
 }
 
-// The current record, how much of the buffers is lent, the number of the line, how many of its
-// bytes are held, and whether a bad line has ended it all.
+// The current record, how much of the buffers is lent, the number of the line, and whether a bad line
+// has ended it all.
 pub struct Session {
     pub kind: Kind,
     pub builder: Builder,
     pub verbs: usize,
     pub floats: usize,
     pub line: u64,
-    pub held: usize,
     pub stopped: bool,
 }
 
@@ -39,15 +38,8 @@ pub fn new() -> Session {
         verbs: 0,
         floats: 0,
         line: 0,
-        held: 0,
         stopped: false,
     }
-}
-
-pub fn with_held(s: Session, held: usize) -> Session {
-    let mut s = s;
-    s.held = held;
-    s
 }
 
 // The next line's number.
@@ -167,7 +159,6 @@ fn replaced(s: Session, kind: Kind, builder: Builder, verbs: usize, floats: usiz
         verbs,
         floats,
         line: s.line,
-        held: s.held,
         stopped: s.stopped,
     }
 }
@@ -321,7 +312,7 @@ pub fn take_line(
     verbs: &mut [u8],
     floats: &mut [f32],
 ) -> Session {
-    let s = with_held(next_line(s), 0);
+    let s = next_line(s);
     if held > line.len() {
         return bad_line(s);
     }
