@@ -3,12 +3,12 @@
 //!        oracle shapes             shapes, twelve floats a line
 //!        oracle shape-fields       every field of each shape on standard input
 //!        oracle replay-lists       calls, streams and points for the program `replay`
-//!        oracle outline-lists      the same for outlines
 //!        oracle replay             the answers to such a text on standard input
 
 use std::io::{self, BufRead, Write};
 
 mod answers;
+mod outline_lists;
 mod replay;
 mod replay_lists;
 mod shapes;
@@ -54,10 +54,9 @@ fn main() -> io::Result<()> {
         ["shapes"] => print_lines(&mut out, shapes::lines()),
         ["shape-fields"] => print_answers(&mut out, shapes::answer),
         ["replay-lists"] => print_lines(&mut out, replay_lists::lists()),
-        ["outline-lists"] => print_lines(&mut out, replay_lists::outlines()),
         ["replay"] => print_replay(&mut out),
         _ => {
-            eprintln!("usage: oracle vectors | answers | shapes | shape-fields | replay-lists | outline-lists | replay");
+            eprintln!("usage: oracle vectors | answers | shapes | shape-fields | replay-lists | replay");
             std::process::exit(2);
         }
     }?;

@@ -3,6 +3,7 @@
 use oracle::random::Random;
 use oracle::vec2::Vec2;
 
+use crate::outline_lists;
 use crate::shapes;
 use crate::stream::{point_words, Call, Stream};
 use crate::words::f32_word;
@@ -59,16 +60,16 @@ const WEIGHTS: [f32; 30] = [
     f32::MAX,
 ];
 
-struct List {
+pub struct List {
     lines: Vec<String>,
-    random: Random,
+    pub random: Random,
 }
 
-fn p(x: f32, y: f32) -> Vec2 {
+pub fn p(x: f32, y: f32) -> Vec2 {
     Vec2::new(x, y)
 }
 
-fn call_words(call: &Call) -> String {
+pub fn call_words(call: &Call) -> String {
     let points = |name: &str, list: &[Vec2]| {
         let words: Vec<String> = list.iter().map(|p| point_words(*p)).collect();
         format!("{name} {}", words.join(" "))
@@ -84,16 +85,25 @@ fn call_words(call: &Call) -> String {
     }
 }
 
+/// How many verbs and floats the calls hold from a fresh builder on.
+pub fn room(calls: &[Call]) -> (usize, usize) {
+    let mut s = Stream::fresh(4096, 16384);
+    for call in calls {
+        let _ = s.build(*call);
+    }
+    (s.record.verbs, 2 * s.record.points)
+}
+
 impl List {
-    fn heading(&mut self, text: &str) {
+    pub fn heading(&mut self, text: &str) {
         self.lines.push(format!("# {text}"));
     }
 
-    fn line(&mut self, text: String) {
+    pub fn line(&mut self, text: String) {
         self.lines.push(text);
     }
 
-    fn list(&mut self, verbs: usize, floats: usize, calls: &[Call]) {
+    pub fn list(&mut self, verbs: usize, floats: usize, calls: &[Call]) {
         self.line(format!("buffers {verbs} {floats}"));
         self.lines.extend(calls.iter().map(call_words));
     }
@@ -101,11 +111,7 @@ impl List {
     /// The calls in buffers of exactly their length, one verb short, one point short, and with an
     /// odd float more, which is no room, or less.
     fn fitted(&mut self, calls: &[Call]) {
-        let mut s = Stream::fresh(4096, 16384);
-        for call in calls {
-            let _ = s.build(*call);
-        }
-        let (verbs, floats) = (s.record.verbs, 2 * s.record.points);
+        let (verbs, floats) = room(calls);
         self.list(verbs, floats, calls);
         self.line("box".to_string());
         self.list(verbs.saturating_sub(1), floats, calls);
@@ -123,7 +129,7 @@ impl List {
         }
     }
 
-    fn point(&mut self) -> Vec2 {
+    pub fn point(&mut self) -> Vec2 {
         p(self.coordinate(), self.coordinate())
     }
 
@@ -134,7 +140,7 @@ impl List {
         }
     }
 
-    fn call(&mut self) -> Call {
+    pub fn call(&mut self) -> Call {
         match self.random.below(12) {
             0 | 1 => Call::Move(self.point()),
             2 | 3 => Call::Line(self.point()),
@@ -284,7 +290,7 @@ fn random_lists(list: &mut List) {
     list.line("box".to_string());
 }
 
-fn record_words(verbs: u64, points: u64, start: Vec2, pen: Vec2) -> String {
+pub fn record_words(verbs: u64, points: u64, start: Vec2, pen: Vec2) -> String {
     let places = format!("{} {}", point_words(start), point_words(pen));
     format!("record {verbs} {points} {places}")
 }
@@ -479,7 +485,7 @@ fn empty(seed: u64) -> List {
     }
 }
 
-/// All but outlines; the last line is a bad one.
+/// The last line but one is a bad one.
 pub fn lists() -> Vec<String> {
     let mut list = empty(0x7ea1);
     examples(&mut list);
@@ -491,36 +497,9 @@ pub fn lists() -> Vec<String> {
     damaged(&mut list);
     spacing(&mut list);
     containment(&mut list);
+    outline_lists::add_to(&mut list);
     list.heading("a bad line is the last");
     list.line("buffers 4097 0".to_string());
     list.line("contains".to_string());
-    list.lines
-}
-
-/// Outlines: in buffers of their length, one short, behind other calls, and of refused shapes.
-pub fn outlines() -> Vec<String> {
-    let mut list = empty(0x0071);
-    list.heading("outlines");
-    for (i, f) in shapes::shapes().into_iter().enumerate() {
-        let outline = Call::Outline(f);
-        match i % 8 {
-            0 => list.fitted(&[outline]),
-            1 => {
-                let call = list.call();
-                list.list(1100, 4400, &[call, outline, Call::Close]);
-            }
-            _ => list.list(1035, 4148, &[outline]),
-        }
-        if i % 4 == 0 {
-            list.line("box".to_string());
-        }
-    }
-    for f in shapes::refused_shapes() {
-        list.list(2, 2, &[Call::Outline(f)]);
-    }
-    list.line("buffers 9 9".to_string());
-    list.line("record 0 1 00000000 00000000 00000000 00000000".to_string());
-    let good = [0.0, 0.0, 10.0, 10.0, 1.0, 1.0, 1.0, 1.0, 1.0, 1.0, 1.0, 1.0];
-    list.line(call_words(&Call::Outline(good)));
     list.lines
 }

@@ -1,8 +1,8 @@
 // The lines that are written.
-use calls::Call;
 use calls::ConicBuilt;
 use geometry::Point;
 use libc::STDOUT_FILENO;
+use outline::BuildingCall;
 use reader::Bounded;
 use reader::Cursor;
 use reader::Extent;
@@ -133,14 +133,14 @@ pub fn write_bounded(b: Bounded) {
     }
 }
 
-fn is_conic(call: Call) -> bool {
+fn is_conic(call: BuildingCall) -> bool {
     match call {
-        Call::ConicTo(_, _, _) => true,
+        BuildingCall::ConicTo(_, _, _) => true,
         _ => false,
     }
 }
 
-fn write_done(call: Call, b: Builder, word: u64) {
+fn write_done(call: BuildingCall, b: Builder, word: u64) {
     let mut out = [0u8; 128];
     let n = text::put(&mut out, 0, b"ok");
     let n = put_counts(&mut out, n, b.verbs, b.points);
@@ -154,7 +154,7 @@ fn write_done(call: Call, b: Builder, word: u64) {
 }
 
 // The answer of a call, and the record that it gives back.
-pub fn write_built(call: Call, a: ConicBuilt) -> Builder {
+pub fn write_built(call: BuildingCall, a: ConicBuilt) -> Builder {
     match a {
         ConicBuilt::Done(b, word) => {
             write_done(call, b, word);
@@ -179,12 +179,21 @@ fn write_flag(yes: bool) {
     write_word(b"0");
 }
 
-// Whether the shape contains the point, or why there is no shape.
-pub fn write_contains(a: Answer, p: Point) {
+// Why there is no shape.
+pub fn write_no_shape(a: Answer) {
     match a {
-        Answer::Made(s) => write_flag(containment::contains(s, p)),
+        Answer::Made(_) => {}
         Answer::BeyondLimit => write_refusal(2),
         Answer::NegativeRadius => write_refusal(3),
         Answer::Inverted => write_refusal(4),
     }
+}
+
+// Whether the shape contains the point, or why there is no shape.
+pub fn write_contains(a: Answer, p: Point) {
+    let Answer::Made(s) = a else {
+        write_no_shape(a);
+        return;
+    };
+    write_flag(containment::contains(s, p));
 }

@@ -1,9 +1,9 @@
 // What a line asks for.
 use crate::words;
 use crate::words::Operands;
-use calls::Call;
 use check::same;
 use geometry::Point;
+use outline::BuildingCall;
 use reader::Cursor;
 use shape::Bounds;
 use shape::CornerRadii;
@@ -14,7 +14,8 @@ pub enum Item {
     Nothing,
     Bad,
     Buffers(usize, usize),
-    Build(Call),
+    Build(BuildingCall),
+    Outline(Bounds, CornerRadii),
     Record(Builder),
     Raw(usize, usize),
     // The bytes or floats are read from the line where they go.
@@ -100,10 +101,10 @@ fn radii_of(x: [f32; 14]) -> CornerRadii {
 
 fn of_two(name: &[u8], p: Point) -> Item {
     if same(name, b"move") {
-        return Item::Build(Call::MoveTo(p));
+        return Item::Build(BuildingCall::MoveTo(p));
     }
     if same(name, b"line") {
-        return Item::Build(Call::LineTo(p));
+        return Item::Build(BuildingCall::LineTo(p));
     }
     Item::Bad
 }
@@ -119,17 +120,22 @@ fn of_floats(name: &[u8], o: Operands) -> Item {
     }
     if n == 4 {
         if same(name, b"quad") {
-            return Item::Build(Call::QuadTo(p, q));
+            return Item::Build(BuildingCall::QuadTo(p, q));
         }
     }
     if n == 5 {
         if same(name, b"conic") {
-            return Item::Build(Call::ConicTo(p, q, x[4]));
+            return Item::Build(BuildingCall::ConicTo(p, q, x[4]));
         }
     }
     if n == 6 {
         if same(name, b"cubic") {
-            return Item::Build(Call::CubicTo(p, q, Point { x: x[4], y: x[5] }));
+            return Item::Build(BuildingCall::CubicTo(p, q, Point { x: x[4], y: x[5] }));
+        }
+    }
+    if n == 12 {
+        if same(name, b"outline") {
+            return Item::Outline(bounds_of(x), radii_of(x));
         }
     }
     if n == 14 {
@@ -144,7 +150,7 @@ fn of_floats(name: &[u8], o: Operands) -> Item {
 // A name alone.
 fn of_name(name: &[u8]) -> Item {
     if same(name, b"close") {
-        return Item::Build(Call::Close);
+        return Item::Build(BuildingCall::Close);
     }
     if same(name, b"box") {
         return Item::Box;

@@ -3,11 +3,12 @@ use crate::answers;
 use crate::items;
 use crate::items::Item;
 use crate::words;
-use calls::Call;
 use geometry::Point;
+use outline::BuildingCall;
 use reader::Cursor;
 use reader::Reading;
 use reader::Segment;
+use shape::Answer;
 use shape::RoundSuperellipse;
 use stream::Builder;
 
@@ -19,15 +20,14 @@ pub enum Kind {
     Asked,
 }
 
-// The current record, how much of the buffers is lent, the number of the line, how many of its
-// bytes are held, and whether a bad line has ended it all.
+// The current record, how much of the buffers is lent, the number of the line, and whether a bad line
+// has ended it all.
 pub struct Session {
     pub kind: Kind,
     pub builder: Builder,
     pub verbs: usize,
     pub floats: usize,
     pub line: u64,
-    pub held: usize,
     pub stopped: bool,
 }
 
@@ -38,15 +38,8 @@ pub fn new() -> Session {
         verbs: 0,
         floats: 0,
         line: 0,
-        held: 0,
         stopped: false,
     }
-}
-
-pub fn with_held(s: Session, held: usize) -> Session {
-    let mut s = s;
-    s.held = held;
-    s
 }
 
 // The next line's number.
@@ -166,7 +159,6 @@ fn replaced(s: Session, kind: Kind, builder: Builder, verbs: usize, floats: usiz
         verbs,
         floats,
         line: s.line,
-        held: s.held,
         stopped: s.stopped,
     }
 }
@@ -201,8 +193,17 @@ fn set_builder(s: Session, b: Builder) -> Session {
     s
 }
 
+fn refuse_shape(s: Session, a: Answer) -> Session {
+    let kind = s.kind;
+    let Kind::List = kind else {
+        return bad_line(s);
+    };
+    answers::write_no_shape(a);
+    s
+}
+
 // One call of the library, whichever it is.
-fn build(s: Session, call: Call, verbs: &mut [u8], floats: &mut [f32]) -> Session {
+fn build(s: Session, call: BuildingCall, verbs: &mut [u8], floats: &mut [f32]) -> Session {
     let kind = s.kind;
     let Kind::List = kind else {
         return bad_line(s);
@@ -215,8 +216,16 @@ fn build(s: Session, call: Call, verbs: &mut [u8], floats: &mut [f32]) -> Sessio
     if f > floats.len() {
         return s;
     }
-    let a = lists::apply(s.builder, &mut verbs[0..v], &mut floats[0..f], call);
+    let a = building::apply(s.builder, &mut verbs[0..v], &mut floats[0..f], call);
     set_builder(s, answers::write_built(call, a))
+}
+
+// The outline of a shape, or why there is no shape.
+fn build_outline(s: Session, a: Answer, verbs: &mut [u8], floats: &mut [f32]) -> Session {
+    let Answer::Made(shape) = a else {
+        return refuse_shape(s, a);
+    };
+    build(s, BuildingCall::AddTo(shape), verbs, floats)
 }
 
 fn set_record(s: Session, b: Builder) -> Session {
@@ -279,6 +288,9 @@ fn take_item(s: Session, line: &[u8], verbs: &mut [u8], floats: &mut [f32]) -> S
         Item::Bad => bad_line(s),
         Item::Buffers(v, f) => begin_list(s, v, f, verbs, floats),
         Item::Build(call) => build(s, call, verbs, floats),
+        Item::Outline(bounds, radii) => {
+            build_outline(s, RoundSuperellipse::new(bounds, radii), verbs, floats)
+        }
         Item::Record(b) => set_record(s, b),
         Item::Raw(v, p) => begin_raw(s, v, p, verbs, floats),
         Item::Verbs => grow_verbs(s, text::after_word(line), verbs),
@@ -300,7 +312,7 @@ pub fn take_line(
     verbs: &mut [u8],
     floats: &mut [f32],
 ) -> Session {
-    let s = with_held(next_line(s), 0);
+    let s = next_line(s);
     if held > line.len() {
         return bad_line(s);
     }

@@ -1,6 +1,5 @@
 // The functions of the float ground under the names that a vector uses, by the number of their
 // operands. A function that does not have the name hands it on to the next.
-use crate::operands;
 use check::same;
 use geometry::Point;
 use text::Double;

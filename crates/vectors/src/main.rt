@@ -3,10 +3,8 @@
 // `0` or `1`; `bad` for a line that is no vector; nothing for a line with no word. A `#` starts a
 // comment. A line has at most 1,024 bytes.
 mod functions;
-mod operands;
 
 use functions::Answer;
-use libc::STDIN_FILENO;
 use libc::STDOUT_FILENO;
 
 fn pair_text(x: f32, y: f32, out: &mut [u8]) -> usize {
@@ -51,75 +49,23 @@ fn finish(line: &[u8], held: usize) {
     }
 }
 
-// A part of a line behind the bytes already held, and how many are held then.
-fn hold(line: &mut [u8], held: usize, part: &[u8]) -> usize {
-    if held > line.len() {
-        return held;
-    }
-    if part.len() > line.len() - held {
-        return line.len() + 1;
-    }
-    text::put(line, held, part)
-}
-
-// Every line that ends in the piece, and how many bytes of the next are held.
-fn take_piece(piece: &[u8], line: &mut [u8], held: usize) -> usize {
-    let mut held = held;
-    let mut at = 0;
-    while at < piece.len() {
-        let rest = &piece[at..];
-        let n = text::leading(rest, text::Class::Line);
-        held = hold(line, held, &rest[0..n]);
-        if n == rest.len() {
-            return held;
-        }
-        finish(line, held);
-        held = 0;
-        at = at + n + 1;
-    }
-    held
-}
-
-// How many bytes of a line are held, and whether the input may have more.
-struct Progress {
-    held: usize,
-    more: bool,
-}
-
-fn take_some(line: &mut [u8], held: usize) -> Progress {
-    let mut piece = io::large_buffer();
-    let got = libc::read(STDIN_FILENO, &mut piece);
-    if got <= 0 {
-        return Progress { held, more: false };
-    }
-    let n = io::count(got, &piece);
-    Progress {
-        held: take_piece(&piece[0..n], line, held),
-        more: true,
-    }
-}
-
 // A proved loop has to end, and nothing says that the input does: the turns are counted down from
 // a number that no run uses up.
-fn take_all(line: &mut [u8]) -> usize {
-    let mut held = 0;
+fn answer_all(piece: &mut [u8], line: &mut [u8]) {
+    let mut r = lines::new();
     let mut turns = u64::MAX;
     while turns > 0 {
-        let p = take_some(line, held);
-        held = p.held;
-        if !p.more {
-            return held;
+        r = lines::next(r, piece, line);
+        finish(line, r.held);
+        if r.ended {
+            return;
         }
         turns -= 1;
     }
-    held
 }
 
 fn main() {
+    let mut piece = io::large_buffer();
     let mut line = [0u8; 1024];
-    let held = take_all(&mut line);
-    // the last line may lack its end
-    if held > 0 {
-        finish(&line, held);
-    }
+    answer_all(&mut piece, &mut line);
 }
