@@ -1,16 +1,19 @@
 -- A building call on a record that stands in lent numbers: three whole numbers, which are the verb count, the point count and a joint word, and four
 -- floats, which are the contour's start and the pen. Definitions only.
-use mathlib.Core.Bool.{cond, _&&_}
+use mathlib.Core.Bool.{Bool, cond, _&&_}
 use mathlib.Core.List.{List, [], _∷_}
 use Prim.Native.Nat.{ℕ}
 use lib.ListN.{length, getD}
 use lib.Dec.{eqb}
 use lib.Ieee.{Float, nan}
-use Rattle.octant.specs.Octant.{point}
+use Rattle.geometry.specs.declared.Point.{Point}
 use Rattle.stream.specs.declared.Builder.{Builder}
 use Rattle.stream.specs.Stream.{State, state}
 use Rattle.calls.specs.declared.Call.{Call}
 use Rattle.calls.specs.Calls.{Outcome, step}
+
+abbrev pub point : Float → Float → Point
+point x y = record { x = x; y = y }
 
 -- ---- the record in lent numbers
 
@@ -29,6 +32,10 @@ countsOf b word = b .verbs ∷ b .points ∷ word ∷ []
 
 unfoldable pub placesOf : Builder → List Float
 placesOf b = b .start .x ∷ b .start .y ∷ b .pen .x ∷ b .pen .y ∷ []
+
+-- slices of these lengths hold a record
+unfoldable pub fitting : ℕ → ℕ → Bool
+fitting counts places = eqb counts 3 && eqb places 4
 
 -- ---- what a call answers
 
@@ -57,7 +64,7 @@ leftBy o counts places =
 -- a call of any kind, given by what it makes of a state
 abbrev pub lentBy : (State → Outcome) → List ℕ → List Float → List ℕ → List Float → Left
 lentBy f counts places vs fs =
-    cond (eqb (length counts) 3 && eqb (length places) 4)
+    cond (fitting (length counts) (length places))
     (leftBy (f (state (builderAt counts places) vs fs)) counts places)
     (left wrongLength counts places vs fs)
 
