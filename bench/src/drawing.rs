@@ -196,10 +196,9 @@ fn vec(r: &mut Random) -> Vec2 {
 /// A conic from the pen that gives so many quads.
 fn conic(r: &mut Random, pen: Vec2, quads: usize) -> Conic {
     loop {
-        let weight = if quads == 1 {
-            r.within(0.9, 1.1)
-        } else {
-            r.scaled(0.05, 20.0)
+        let weight = match quads {
+            1 => r.within(0.9, 1.1),
+            _ => r.scaled(0.05, 1000.0),
         };
         let c = (vec(r), vec(r), weight as f32);
         if written_path::quads(pen, c) == quads {

@@ -2,3 +2,4 @@
 pub mod Storing
 pub mod ReadBack
 pub mod Answers
+pub mod Corners

@@ -8,8 +8,8 @@ ghost use Rattle.geometry.specs.Point.{one};
 ghost use Rattle.octant.specs.Binary32.{zero};
 ghost use Rattle.octant.specs.Octant.{point};
 ghost use Rattle.stream.specs.Stream.{put};
-ghost use Rattle.ffi_shape.specs.Layout.{pointFloats, octantFloats, quadrantFloats, shapeFloats, pointAt, octantAt, quadrantAt, shapeAt, boundsAt, radiiAt};
-ghost use Rattle.ffi_shape.specs.Making.{left, makeOf, holdsOf};
+ghost use Rattle.ffi_shape.specs.Layout.{pointFloats, octantFloats, quadrantFloats, shapeFloats, pointAt, octantAt, quadrantAt, boundsAt, radiiAt};
+ghost use Rattle.ffi_shape.specs.Making.{left, makeOf, cornersHold, holdsOf};
 use geometry::Point;
 use octant::Octant;
 use quadrant::Quadrant;
@@ -114,19 +114,6 @@ fn quadrant_at(floats: &[f32], at: usize) -> Quadrant
     }
 }
 
-fn shape_at(floats: &[f32]) -> RoundSuperellipse
-    requires { ⌜ length (now floats) ≡ 89 ⌝ }
-    ensures { λ r. ⌜ r ≡ shapeAt (now (floats .entry)) ⌝ }
-{
-    RoundSuperellipse {
-        top_right: quadrant_at(floats, 0),
-        bottom_right: quadrant_at(floats, 22),
-        bottom_left: quadrant_at(floats, 44),
-        top_left: quadrant_at(floats, 66),
-        all_corners_same: floats[88] != 0.0,
-    }
-}
-
 fn bounds_at(sizes: &[f32]) -> Bounds
     requires { ⌜ length (now sizes) ≡ 12 ⌝ }
     ensures { λ r. ⌜ r ≡ boundsAt (now (sizes .entry)) ⌝ }
@@ -172,6 +159,33 @@ pub extern "C" fn shackletongue_shape(sizes: &[f32], shape: &mut [f32]) -> u32
     }
 }
 
+// How many corners describe a shape: all, or one where they are the same.
+fn corner_count(differ: bool) -> usize
+    ensures { λ r. ⌜ r ≡ cond differ 4 1 ⌝ }
+{
+    if differ {
+        return 4;
+    }
+    1
+}
+
+// Whether the first corners of a shape hold the point. They are read one by one from the floats, and
+// asked at one place, so that none is copied.
+fn corners_hold(shape: &[f32], p: Point, check_quadrant: bool, corners: usize) -> bool
+    requires { ⌜ (length (now shape) ≡ 89) × (corners ≤ 4) ⌝ }
+    ensures { λ r. ⌜ r ≡ cornersHold (now (shape .entry)) p «check_quadrant» corners 0 ⌝ }
+{
+    let mut k = 0;
+    while k < corners {
+        if containment::corner_contains(quadrant_at(shape, 22 * k), p, check_quadrant) {
+            k += 1;
+        } else {
+            return false;
+        }
+    }
+    true
+}
+
 // 1 where the shape contains the point, 0 where not.
 #[no_mangle]
 pub extern "C" fn shackletongue_contains(shape: &[f32], x: f32, y: f32) -> u32
@@ -180,7 +194,8 @@ pub extern "C" fn shackletongue_contains(shape: &[f32], x: f32, y: f32) -> u32
     if shape.len() != SHAPE_LENGTH {
         return WRONG_LENGTH;
     }
-    if containment::contains(shape_at(shape), Point { x, y }) {
+    let differ = shape[88] == 0.0;
+    if corners_hold(shape, Point { x, y }, differ, corner_count(differ)) {
         return 1;
     }
     0

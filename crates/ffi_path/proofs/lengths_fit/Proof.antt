@@ -2,8 +2,6 @@ use Rattle.ffi_path.specs.Lent.{fitting}
 use borrow.Author.Tests.{eq-eqb, ne-eqb}
 use Rattle.ffi_path.proofs.lengths_fit.Statement.{statement}
 use Rattle.ffi_path.proofs.lengths_fit.Tie as tie
-use Rattle.ffi_path.proofs.lengths_fit.Reads as reads
-use Rattle.ffi_path.proofs.lengths_fit.Lts as lts
 
 returns : tie.Need-returns
 unfolding fitting

@@ -3,8 +3,6 @@ use Rattle.ffi_path.specs.Lent.{builderAt}
 use borrow.Author.Needs.{needs}
 use Rattle.ffi_path.proofs.load.Statement.{statement}
 use Rattle.ffi_path.proofs.load.Tie as tie
-use Rattle.ffi_path.proofs.load.Reads as reads
-use Rattle.ffi_path.proofs.load.Lts as lts
 
 shared-slice-read-t4 : tie.Need-shared-slice-read-t4
 shared-slice-read-t4 c = search needs

@@ -2,9 +2,6 @@ use Rattle.ffi_path.proofs.Lending.{done, bad-record, no-room}
 use borrow.Author.Needs.{needs}
 use Rattle.ffi_path.proofs.settle.Statement.{statement}
 use Rattle.ffi_path.proofs.settle.Tie as tie
-use Rattle.ffi_path.proofs.settle.Reads as reads
-use Rattle.ffi_path.proofs.settle.Lts as lts
-use Rattle.ffi_path.proofs.store.Reads as store-reads
 
 enum-known-a : tie.Need-enum-known-a
 enum-known-a c = search needs

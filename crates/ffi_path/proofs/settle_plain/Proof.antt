@@ -2,10 +2,6 @@ use Rattle.ffi_path.proofs.Lending.{wordless}
 use borrow.Author.Needs.{needs}
 use Rattle.ffi_path.proofs.settle_plain.Statement.{statement}
 use Rattle.ffi_path.proofs.settle_plain.Tie as tie
-use Rattle.ffi_path.proofs.settle_plain.Reads as reads
-use Rattle.ffi_path.proofs.settle_plain.Lts as lts
-use Rattle.calls.proofs.with_word.Reads as with-word-reads
-use Rattle.ffi_path.proofs.settle.Reads as settle-reads
 
 with-word-requires : tie.Need-with-word-requires
 with-word-requires c κs = search needs

@@ -3,8 +3,6 @@ use Rattle.ffi_path.specs.Lent.{countsOf, placesOf}
 use borrow.Author.Needs.{needs}
 use Rattle.ffi_path.proofs.store.Statement.{statement}
 use Rattle.ffi_path.proofs.store.Tie as tie
-use Rattle.ffi_path.proofs.store.Reads as reads
-use Rattle.ffi_path.proofs.store.Lts as lts
 
 slice-write-counts : tie.Need-slice-write-counts
 slice-write-counts c = search needs

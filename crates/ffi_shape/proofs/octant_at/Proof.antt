@@ -2,67 +2,49 @@ use Rattle.ffi_shape.specs.Layout.{octantAt}
 use borrow.Author.Needs.{needs}
 use Rattle.ffi_shape.proofs.octant_at.Statement.{statement}
 use Rattle.ffi_shape.proofs.octant_at.Tie as tie
-use Rattle.ffi_shape.proofs.octant_at.Reads as reads
-use Rattle.ffi_shape.proofs.octant_at.Lts as lts
-use Rattle.ffi_shape.proofs.point_at.Reads as point-at-reads
 
--- src/lib.rt:96:17
 point-at-requires : tie.Need-point-at-requires
 point-at-requires c κs = search needs
 
--- src/lib.rt:97:22
 add-t4 : tie.Need-add-t4
 add-t4 c = search needs
 
--- src/lib.rt:97:15
 mul-t5 : tie.Need-mul-t5
 mul-t5 c = search needs
 
--- src/lib.rt:97:15
 shared-slice-read-t7 : tie.Need-shared-slice-read-t7
 shared-slice-read-t7 c = search needs
 
--- src/lib.rt:98:22
 add-t8 : tie.Need-add-t8
 add-t8 c = search needs
 
--- src/lib.rt:98:15
 mul-t9 : tie.Need-mul-t9
 mul-t9 c = search needs
 
--- src/lib.rt:98:15
 shared-slice-read-t11 : tie.Need-shared-slice-read-t11
 shared-slice-read-t11 c = search needs
 
--- src/lib.rt:99:40
 add-point-at : tie.Need-add-point-at
 add-point-at c = search needs
 
--- src/lib.rt:99:23
 point-at-requires-2 : tie.Need-point-at-requires-2
 point-at-requires-2 c κs = search needs
 
--- src/lib.rt:100:41
 add-point-at-2 : tie.Need-add-point-at-2
 add-point-at-2 c = search needs
 
--- src/lib.rt:100:24
 point-at-requires-3 : tie.Need-point-at-requires-3
 point-at-requires-3 c κs = search needs
 
--- src/lib.rt:101:34
 add-t16 : tie.Need-add-t16
 add-t16 c = search needs
 
--- src/lib.rt:101:27
 mul-t17 : tie.Need-mul-t17
 mul-t17 c = search needs
 
--- src/lib.rt:101:27
 shared-slice-read-t19 : tie.Need-shared-slice-read-t19
 shared-slice-read-t19 c = search needs
 
--- src/lib.rt:91:1
 returns : tie.Need-returns
 unfolding octantAt
 returns c = rw (← c .before .before .before .before .before .point-at .ensures, ← c .before .before .point-at2 .ensures, ← c .before .point-at3 .ensures)

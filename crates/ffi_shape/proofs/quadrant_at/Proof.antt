@@ -2,40 +2,28 @@ use Rattle.ffi_shape.specs.Layout.{quadrantAt}
 use borrow.Author.Needs.{needs}
 use Rattle.ffi_shape.proofs.quadrant_at.Statement.{statement}
 use Rattle.ffi_shape.proofs.quadrant_at.Tie as tie
-use Rattle.ffi_shape.proofs.quadrant_at.Reads as reads
-use Rattle.ffi_shape.proofs.quadrant_at.Lts as lts
-use Rattle.ffi_shape.proofs.octant_at.Reads as octant-at-reads
-use Rattle.ffi_shape.proofs.point_at.Reads as point-at-reads
 
--- src/lib.rt:110:17
 point-at-requires : tie.Need-point-at-requires
 point-at-requires c κs = search needs
 
--- src/lib.rt:111:40
 add-point-at : tie.Need-add-point-at
 add-point-at c = search needs
 
--- src/lib.rt:111:23
 point-at-requires-2 : tie.Need-point-at-requires-2
 point-at-requires-2 c κs = search needs
 
--- src/lib.rt:112:32
 add-octant-at : tie.Need-add-octant-at
 add-octant-at c = search needs
 
--- src/lib.rt:112:14
 octant-at-requires : tie.Need-octant-at-requires
 octant-at-requires c κs = search needs
 
--- src/lib.rt:113:34
 add-octant-at-2 : tie.Need-add-octant-at-2
 add-octant-at-2 c = search needs
 
--- src/lib.rt:113:16
 octant-at-requires-2 : tie.Need-octant-at-requires-2
 octant-at-requires-2 c κs = search needs
 
--- src/lib.rt:105:1
 returns : tie.Need-returns
 unfolding quadrantAt
 returns c = rw (← c .before .before .before .point-at .ensures, ← c .before .before .point-at2 .ensures, ← c .before .octant-at .ensures, ← c .octant-at2 .ensures)

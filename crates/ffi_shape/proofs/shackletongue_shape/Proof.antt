@@ -7,73 +7,52 @@ use Rattle.ffi_shape.specs.Making.{left, leftBy}
 use borrow.Author.Needs.{needs}
 use Rattle.ffi_shape.proofs.shackletongue_shape.Statement.{statement}
 use Rattle.ffi_shape.proofs.shackletongue_shape.Tie as tie
-use Rattle.ffi_shape.proofs.shackletongue_shape.Reads as reads
-use Rattle.ffi_shape.proofs.shackletongue_shape.Lts as lts
-use Rattle.ffi_shape.proofs.bounds_at.Reads as bounds-at-reads
-use Rattle.ffi_shape.proofs.radii_at.Reads as radii-at-reads
-use Rattle.ffi_shape.proofs.store_shape.Reads as store-shape-reads
-use Rattle.shape.proofs.RoundSuperellipse.new.Reads as new-reads
 
--- src/lib.rt:159:9
 returns : tie.Need-returns
 returns c = wrong-sizes _ _ (c .if1 .taken)
 
--- src/lib.rt:162:9
 returns-2 : tie.Need-returns-2
 returns-2 c = wrong-shape _ _ (c .before .if1 .left) (c .if2 .taken)
 
--- src/lib.rt:164:34
 bounds-at-requires : tie.Need-bounds-at-requires
 bounds-at-requires c κs = search needs
 
--- src/lib.rt:164:52
 radii-at-requires : tie.Need-radii-at-requires
 radii-at-requires c κs = search needs
 
--- src/lib.rt:164:11
 new-requires : tie.Need-new-requires
 new-requires c κs = search needs
 
--- src/lib.rt:165:22
 enum-known-s : tie.Need-enum-known-s
 enum-known-s c = search needs
 
--- src/lib.rt:166:13
 store-shape-requires : tie.Need-store-shape-requires
 store-shape-requires c κs = search needs
 
--- src/lib.rt:169:32
 enum-told : tie.Need-enum-told
 enum-told c = search needs
 
--- src/lib.rt:170:35
 enum-told-2 : tie.Need-enum-told-2
 enum-told-2 c = search needs
 
--- src/lib.rt:171:29
 enum-told-3 : tie.Need-enum-told-3
 enum-told-3 c = search needs
 
--- src/lib.rt:154:1
 same-length : tie.Need-same-length
 same-length c = search needs
 
--- src/lib.rt:154:1
 returns-3 : tie.Need-returns-3
 unfolding outcomeOf leftBy
 returns-3 c = ap (λ (fs : List Float). left 0 fs) (c .before .before .store-shape .ensures) ∙ made-as (c .before .before .before .before .before .before .before .before .before .before .before .before .before .before .args .sizes .now) (c .before .before .before .before .before .before .before .before .before .before .before .before .before .before .args .shape .now) _ _ (c .before .before .before .before .before .before .before .new .result) _ (c .before .before .before .before .before .before .before .before .before .before .before .if1 .left) (c .before .before .before .before .before .before .before .before .before .before .if2 .left) (c .before .before .before .before .before .before .before .before .before .bounds-at .ensures) (c .before .before .before .before .before .before .before .before .radii-at .ensures) (c .before .before .before .before .before .before .before .new .ensures) (c .before .before .before .before .before .s .given .1)
 
--- src/lib.rt:154:1
 returns-4 : tie.Need-returns-4
 unfolding outcomeOf leftBy
 returns-4 c = made-as (c .before .before .before .before .before .before .before .before .before .args .sizes .now) (c .before .before .before .before .before .before .before .before .before .args .shape .now) _ _ (c .before .before .new .result) _ (c .before .before .before .before .before .before .if1 .left) (c .before .before .before .before .before .if2 .left) (c .before .before .before .before .bounds-at .ensures) (c .before .before .before .radii-at .ensures) (c .before .before .new .ensures) (c .enum-told .given .1)
 
--- src/lib.rt:154:1
 returns-5 : tie.Need-returns-5
 unfolding outcomeOf leftBy
 returns-5 c = made-as (c .before .before .before .before .before .before .before .before .before .args .sizes .now) (c .before .before .before .before .before .before .before .before .before .args .shape .now) _ _ (c .before .before .new .result) _ (c .before .before .before .before .before .before .if1 .left) (c .before .before .before .before .before .if2 .left) (c .before .before .before .before .bounds-at .ensures) (c .before .before .before .radii-at .ensures) (c .before .before .new .ensures) (c .enum-told2 .given .1)
 
--- src/lib.rt:154:1
 returns-6 : tie.Need-returns-6
 unfolding outcomeOf leftBy
 returns-6 c = made-as (c .before .before .before .before .before .before .before .before .before .args .sizes .now) (c .before .before .before .before .before .before .before .before .before .args .shape .now) _ _ (c .before .before .new .result) _ (c .before .before .before .before .before .before .if1 .left) (c .before .before .before .before .before .if2 .left) (c .before .before .before .before .bounds-at .ensures) (c .before .before .before .radii-at .ensures) (c .before .before .new .ensures) (c .enum-told3 .given .1)

@@ -4,55 +4,40 @@ use lib.ListN.{length-set}
 use borrow.Author.Needs.{needs}
 use Rattle.ffi_shape.proofs.store_octant.Statement.{statement}
 use Rattle.ffi_shape.proofs.store_octant.Tie as tie
-use Rattle.ffi_shape.proofs.store_octant.Reads as reads
-use Rattle.ffi_shape.proofs.store_octant.Lts as lts
-use Rattle.ffi_shape.proofs.store_point.Reads as store-point-reads
 
--- src/lib.rt:44:5
 store-point-requires : tie.Need-store-point-requires
 store-point-requires c κs = search needs
 
--- src/lib.rt:45:25
 add-store-point : tie.Need-add-store-point
 add-store-point c = search needs
 
--- src/lib.rt:45:5
 store-point-requires-2 : tie.Need-store-point-requires-2
 store-point-requires-2 c κs = search needs
 
--- src/lib.rt:46:25
 add-store-point-2 : tie.Need-add-store-point-2
 add-store-point-2 c = search needs
 
--- src/lib.rt:46:5
 store-point-requires-3 : tie.Need-store-point-requires-3
 store-point-requires-3 c κs = search needs
 
--- src/lib.rt:47:25
 add-store-point-3 : tie.Need-add-store-point-3
 add-store-point-3 c = search needs
 
--- src/lib.rt:47:5
 store-point-requires-4 : tie.Need-store-point-requires-4
 store-point-requires-4 c κs = search needs
 
--- src/lib.rt:48:12
 add-floats : tie.Need-add-floats
 add-floats c = search needs
 
--- src/lib.rt:48:5
 mul-floats : tie.Need-mul-floats
 mul-floats c = search needs
 
--- src/lib.rt:48:5
 slice-write-floats : tie.Need-slice-write-floats
 slice-write-floats c = search needs
 
--- src/lib.rt:36:1
 same-length : tie.Need-same-length
 same-length c = simp length-set (omega (arith, c .before .before .before .before .before .before .before .before .before .before .before .before .before .before .store-point .kept, c .before .before .before .before .before .before .before .before .before .before .store-point2 .kept, c .before .before .before .before .before .before .store-point3 .kept, c .before .before .store-point4 .kept))
 
--- src/lib.rt:36:1
 returns : tie.Need-returns
 returns c =
     let a = c .before .before .before .before .before .before .before .before .before .before .before .before .before .before .before .before .before .args in

@@ -2,44 +2,31 @@ use Rattle.ffi_shape.proofs.Storing.{quadrant-stored}
 use borrow.Author.Needs.{needs}
 use Rattle.ffi_shape.proofs.store_quadrant.Statement.{statement}
 use Rattle.ffi_shape.proofs.store_quadrant.Tie as tie
-use Rattle.ffi_shape.proofs.store_quadrant.Reads as reads
-use Rattle.ffi_shape.proofs.store_quadrant.Lts as lts
-use Rattle.ffi_shape.proofs.store_octant.Reads as store-octant-reads
-use Rattle.ffi_shape.proofs.store_point.Reads as store-point-reads
 
--- src/lib.rt:55:5
 store-point-requires : tie.Need-store-point-requires
 store-point-requires c κs = search needs
 
--- src/lib.rt:56:25
 add-store-point : tie.Need-add-store-point
 add-store-point c = search needs
 
--- src/lib.rt:56:5
 store-point-requires-2 : tie.Need-store-point-requires-2
 store-point-requires-2 c κs = search needs
 
--- src/lib.rt:57:26
 add-store-octant : tie.Need-add-store-octant
 add-store-octant c = search needs
 
--- src/lib.rt:57:5
 store-octant-requires : tie.Need-store-octant-requires
 store-octant-requires c κs = search needs
 
--- src/lib.rt:58:26
 add-store-octant-2 : tie.Need-add-store-octant-2
 add-store-octant-2 c = search needs
 
--- src/lib.rt:58:5
 store-octant-requires-2 : tie.Need-store-octant-requires-2
 store-octant-requires-2 c κs = search needs
 
--- src/lib.rt:51:1
 same-length : tie.Need-same-length
 same-length c = search needs
 
--- src/lib.rt:51:1
 returns : tie.Need-returns
 returns c =
     let a = c .before .before .before .before .before .before .before .before .before .before .before .before .before .before .before .before .before .args in

@@ -4,40 +4,28 @@ use lib.ListN.{length-set}
 use borrow.Author.Needs.{needs}
 use Rattle.ffi_shape.proofs.store_shape.Statement.{statement}
 use Rattle.ffi_shape.proofs.store_shape.Tie as tie
-use Rattle.ffi_shape.proofs.store_shape.Reads as reads
-use Rattle.ffi_shape.proofs.store_shape.Lts as lts
-use Rattle.ffi_shape.proofs.flag.Reads as flag-reads
-use Rattle.ffi_shape.proofs.store_quadrant.Reads as store-quadrant-reads
 
--- src/lib.rt:74:5
 store-quadrant-requires : tie.Need-store-quadrant-requires
 store-quadrant-requires c κs = search needs
 
--- src/lib.rt:75:5
 store-quadrant-requires-2 : tie.Need-store-quadrant-requires-2
 store-quadrant-requires-2 c κs = search needs
 
--- src/lib.rt:76:5
 store-quadrant-requires-3 : tie.Need-store-quadrant-requires-3
 store-quadrant-requires-3 c κs = search needs
 
--- src/lib.rt:77:5
 store-quadrant-requires-4 : tie.Need-store-quadrant-requires-4
 store-quadrant-requires-4 c κs = search needs
 
--- src/lib.rt:78:18
 flag-requires : tie.Need-flag-requires
 flag-requires c κs = search needs
 
--- src/lib.rt:78:5
 slice-write-floats : tie.Need-slice-write-floats
 slice-write-floats c = search needs
 
--- src/lib.rt:70:1
 same-length : tie.Need-same-length
 same-length c = simp length-set (omega (arith, c .before .before .before .before .before .before .before .before .before .before .before .before .before .before .before .store-quadrant .kept, c .before .before .before .before .before .before .before .before .before .before .before .store-quadrant2 .kept, c .before .before .before .before .before .before .before .store-quadrant3 .kept, c .before .before .before .store-quadrant4 .kept))
 
--- src/lib.rt:70:1
 returns : tie.Need-returns
 returns c =
     let a = c .before .before .before .before .before .before .before .before .before .before .before .before .before .before .before .before .before .before .args in
