@@ -1,6 +1,7 @@
 //! usage: bench speed [NAME..] | bench compare [NAME..]
 
 mod compare;
+mod drawing;
 mod library;
 mod others;
 mod speed;
@@ -9,7 +10,10 @@ fn main() {
     let words: Vec<String> = std::env::args().skip(1).collect();
     let words: Vec<&str> = words.iter().map(String::as_str).collect();
     match words[..] {
-        ["speed", ref names @ ..] => speed::run(names),
+        ["speed", ref names @ ..] => {
+            speed::run(names);
+            drawing::run(names);
+        }
         ["compare", ref names @ ..] => compare::run(names),
         _ => {
             eprintln!("usage: bench speed [NAME..] | bench compare [NAME..]");

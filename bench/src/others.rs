@@ -58,3 +58,82 @@ pub mod platform {
         y.atan2(x)
     }
 }
+
+/// The original's shapes on one kind of float functions.
+macro_rules! shapes {
+    ($name:ident, $variant:ident) => {
+        pub mod $name {
+            use oracle::vec2::Vec2;
+            use oracle::$variant::path::Rect;
+            use oracle::$variant::superellipse::{CornerRadii, RoundSuperellipse};
+
+            /// min, max, and the radii top left, top right, bottom left, bottom right.
+            #[inline(never)]
+            pub fn new(s: &[f32; 12]) -> RoundSuperellipse {
+                let point = |k: usize| Vec2::new(s[2 * k], s[2 * k + 1]);
+                RoundSuperellipse::new(
+                    Rect::new(point(0), point(1)),
+                    CornerRadii {
+                        top_left: point(2),
+                        top_right: point(3),
+                        bottom_left: point(4),
+                        bottom_right: point(5),
+                    },
+                )
+            }
+
+            #[inline(never)]
+            pub fn contains(shape: &RoundSuperellipse, x: f32, y: f32) -> bool {
+                shape.contains(Vec2::new(x, y))
+            }
+        }
+    };
+}
+
+shapes!(written_shape, written);
+shapes!(native_shape, native);
+
+/// The original's builder, whose vectors have their room reserved.
+pub mod written_path {
+    use crate::library::Path;
+    use oracle::vec2::Vec2;
+    use oracle::written::path::access;
+
+    pub use oracle::written::path::access::{clear, with_room};
+    pub use oracle::written::path::PathBuilder;
+
+    #[inline(never)]
+    pub fn move_to(builder: &mut PathBuilder, p: Vec2) {
+        builder.move_to(p);
+    }
+
+    #[inline(never)]
+    pub fn line_to(builder: &mut PathBuilder, p: Vec2) {
+        builder.line_to(p);
+    }
+
+    #[inline(never)]
+    pub fn conic_to(builder: &mut PathBuilder, (ctrl, to, weight): (Vec2, Vec2, f32)) {
+        builder.conic_to(ctrl, to, weight);
+    }
+
+    /// How many quads a conic from the pen gives.
+    pub fn quads(pen: Vec2, conic: (Vec2, Vec2, f32)) -> usize {
+        let mut builder = PathBuilder::new();
+        builder.move_to(pen);
+        conic_to(&mut builder, conic);
+        access::verbs(&builder).len() - 1
+    }
+
+    /// Whether a path of the library holds the same.
+    pub fn same(builder: &PathBuilder, path: &Path) -> bool {
+        let verbs = access::verbs(builder).iter().copied();
+        let points = access::points(builder).iter().flat_map(|p| [p.x, p.y]);
+        verbs
+            .map(access::verb_number)
+            .eq(path.verbs().iter().copied())
+            && points
+                .map(f32::to_bits)
+                .eq(path.points().iter().map(|x| x.to_bits()))
+    }
+}

@@ -37,8 +37,8 @@ fn overlapping<T: Copy>(inputs: &[T], call: impl Fn(T) -> u64) -> f64 {
     time.as_nanos() as f64 / inputs.len() as f64
 }
 
-fn print(name: &str, how: &str, labels: &[&str], least: &[f64]) {
-    print!("{name:<8} {how:<8}");
+pub fn print(name: &str, how: &str, labels: &[&str], least: &[f64]) {
+    print!("{name:<8} {how:<19}");
     for (label, ns) in labels.iter().zip(least) {
         print!("  {label} {ns:6.2}");
     }

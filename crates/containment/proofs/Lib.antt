@@ -1,3 +1,4 @@
 -- The square corner's law, and document 01's example of a shape.
 pub mod SquareCorner
+pub mod Folding
 pub mod Examples

@@ -1,6 +1,10 @@
 // Whether a shape contains a point, by the curve itself. It refuses nothing: a NaN follows IEEE comparison.
 // Binary32 throughout, every operation rounded once, with the Rust's names and in its order.
 ghost use mathlib.Core.Path.{_≡_};
+ghost use mathlib.Core.Bool.{cond, _&&_, _||_};
+ghost use lib.Ieee.{lt};
+ghost use Rattle.geometry.specs.Point.{absPoint};
+ghost use Rattle.octant.specs.Binary32.{zero};
 ghost use Rattle.containment.specs.Contains.{octantContainsOf, within, squareContains, roundContains, squareCorner, normContains, cornerContainsOf, containsOf};
 use geometry::Point;
 use octant::Octant;
@@ -77,20 +81,35 @@ fn norm_contains(param: Quadrant, norm_point: Point) -> bool
     round_contains(param, norm_point)
 }
 
+// Whether a corner is asked for points of its own quadrant alone, and this is none.
+fn is_passed_over(p: Point, check_quadrant: bool) -> bool
+    ensures { λ r. ⌜ r ≡ («check_quadrant» && (lt (p .x) zero || lt (p .y) zero)) ⌝ }
+{
+    if check_quadrant {
+        return p.x < 0.0 || p.y < 0.0;
+    }
+    false
+}
+
+// A point mirrored into the quadrant, unless it is asked for points of its own alone.
+fn mirrored(p: Point, check_quadrant: bool) -> Point
+    ensures { λ r. ⌜ r ≡ cond «check_quadrant» p (absPoint p) ⌝ }
+{
+    if check_quadrant {
+        return p;
+    }
+    geometry::abs(p)
+}
+
+// One call of `norm_contains`, so that it is compiled in place and no record is copied for it.
 pub fn corner_contains(param: Quadrant, p: Point, check_quadrant: bool) -> bool
     ensures { λ r. ⌜ r ≡ cornerContainsOf param p «check_quadrant» ⌝ }
 {
     let norm_point = geometry::div(geometry::sub(p, param.offset), param.signed_scale);
-    if check_quadrant {
-        if norm_point.x < 0.0 {
-            return true;
-        }
-        if norm_point.y < 0.0 {
-            return true;
-        }
-        return norm_contains(param, norm_point);
+    if is_passed_over(norm_point, check_quadrant) {
+        return true;
     }
-    norm_contains(param, geometry::abs(norm_point))
+    norm_contains(param, mirrored(norm_point, check_quadrant))
 }
 
 pub fn contains(shape: RoundSuperellipse, p: Point) -> bool

@@ -1,0 +1,313 @@
+//! ns per call of what makes shapes, asks them and builds paths: the library, the original on document
+//! 01's float functions and the original on the platform's, on the same inputs, taken in turns in one
+//! run, the least of many rounds each. Every function stands behind a call.
+
+use std::hint::black_box;
+use std::time::Instant;
+
+use oracle::random::Random;
+use oracle::vec2::Vec2;
+
+use crate::library::{self, Path};
+use crate::others::{native_shape, written_path, written_shape};
+use crate::speed::print;
+
+const ROUNDS: usize = 200;
+const SHAPES: usize = 256;
+const POINTS: usize = 16;
+/// Calls of a path before it is begun anew.
+const LENGTH: usize = 64;
+const PATHS: usize = 16;
+
+/// One round of each in turn, again and again: the least time of each over `calls`.
+fn least(calls: usize, bodies: &mut [&mut dyn FnMut()]) -> Vec<f64> {
+    let mut times = vec![f64::INFINITY; bodies.len()];
+    for _ in 0..ROUNDS {
+        for (time, body) in times.iter_mut().zip(bodies.iter_mut()) {
+            let start = Instant::now();
+            body();
+            *time = time.min(start.elapsed().as_nanos() as f64 / calls as f64);
+        }
+    }
+    times
+}
+
+/// min, max, and the radii top left, top right, bottom left, bottom right.
+type Sizes = [f32; 12];
+
+fn box_of(r: &mut Random, square: bool) -> [f64; 4] {
+    let (x, y) = (r.within(0.0, 1000.0), r.within(0.0, 1000.0));
+    let width = r.within(20.0, 400.0);
+    let height = if square { width } else { r.within(20.0, 400.0) };
+    // whole numbers, so that a square is one after rounding too
+    [
+        x.floor(),
+        y.floor(),
+        x.floor() + width.floor(),
+        y.floor() + height.floor(),
+    ]
+}
+
+/// A box with these radii, each a part of the lesser half side.
+fn sizes(r: &mut Random, square: bool, parts: [f64; 4]) -> Sizes {
+    let [x0, y0, x1, y1] = box_of(r, square);
+    let half = (x1 - x0).min(y1 - y0) / 2.0;
+    let [tl, tr, bl, br] = parts.map(|part| part * half);
+    [x0, y0, x1, y1, tl, tl, tr, tr, bl, bl, br, br].map(|v| v as f32)
+}
+
+fn part(r: &mut Random) -> f64 {
+    r.within(0.1, 0.9)
+}
+
+const KINDS: [(&str, fn(&mut Random) -> Sizes); 4] = [
+    ("one radius", |r| {
+        let p = part(r);
+        sizes(r, false, [p; 4])
+    }),
+    ("square box", |r| {
+        let p = part(r);
+        sizes(r, true, [p; 4])
+    }),
+    ("two radii", |r| {
+        let (p, q) = (part(r), part(r));
+        sizes(r, false, [p, p, q, q])
+    }),
+    ("four radii", |r| {
+        let parts = [(); 4].map(|()| part(r));
+        sizes(r, false, parts)
+    }),
+];
+
+fn new(kind: &str, make: fn(&mut Random) -> Sizes) {
+    let mut random = Random(7);
+    let inputs: Vec<Sizes> = (0..SHAPES).map(|_| make(&mut random)).collect();
+    let mut floats = [0.0; library::SHAPE_FLOATS];
+    let times = least(
+        SHAPES,
+        &mut [
+            &mut || {
+                for s in &inputs {
+                    library::shape(s, &mut floats);
+                    black_box(&floats);
+                }
+            },
+            &mut || {
+                for s in &inputs {
+                    black_box(&written_shape::new(s));
+                }
+            },
+            &mut || {
+                for s in &inputs {
+                    black_box(&native_shape::new(s));
+                }
+            },
+        ],
+    );
+    print("new", kind, &["library", "oracle", "std"], &times);
+}
+
+/// A point in the middle of the box, near one of its corners, or beyond it.
+const PLACES: [(&str, fn(&mut Random, &Sizes) -> (f32, f32)); 3] = [
+    ("inside", |r, s| {
+        (
+            between(r, s[0], s[2], 0.3, 0.7),
+            between(r, s[1], s[3], 0.3, 0.7),
+        )
+    }),
+    ("corner", |r, s| {
+        (near(r, s[0], s[2], 0.0, 0.2), near(r, s[1], s[3], 0.0, 0.2))
+    }),
+    ("outside", |r, s| {
+        (
+            near(r, s[0], s[2], -0.3, -0.05),
+            near(r, s[1], s[3], -0.3, -0.05),
+        )
+    }),
+];
+
+fn between(r: &mut Random, low: f32, high: f32, from: f64, to: f64) -> f32 {
+    (low as f64 + (high - low) as f64 * r.within(from, to)) as f32
+}
+
+/// The same from either end.
+fn near(r: &mut Random, low: f32, high: f32, from: f64, to: f64) -> f32 {
+    if r.below(2) == 0 {
+        between(r, low, high, from, to)
+    } else {
+        between(r, high, low, from, to)
+    }
+}
+
+fn contains(kind: &str, make: fn(&mut Random) -> Sizes) {
+    let mut random = Random(8);
+    let inputs: Vec<Sizes> = (0..SHAPES).map(|_| make(&mut random)).collect();
+    let lent: Vec<[f32; library::SHAPE_FLOATS]> = inputs
+        .iter()
+        .map(|s| {
+            let mut floats = [0.0; library::SHAPE_FLOATS];
+            library::shape(s, &mut floats);
+            floats
+        })
+        .collect();
+    let written: Vec<_> = inputs.iter().map(written_shape::new).collect();
+    let native: Vec<_> = inputs.iter().map(native_shape::new).collect();
+    for (place, choose) in PLACES {
+        let points: Vec<(f32, f32)> = (0..SHAPES * POINTS)
+            .map(|k| choose(&mut random, &inputs[k / POINTS]))
+            .collect();
+        let (mut a, mut b, mut c) = (0u64, 0u64, 0u64);
+        let times = least(
+            points.len(),
+            &mut [
+                &mut || {
+                    a = 0;
+                    for (k, (x, y)) in points.iter().enumerate() {
+                        a += library::contains(&lent[k / POINTS], *x, *y) as u64;
+                    }
+                },
+                &mut || {
+                    b = 0;
+                    for (k, (x, y)) in points.iter().enumerate() {
+                        b += written_shape::contains(&written[k / POINTS], *x, *y) as u64;
+                    }
+                },
+                &mut || {
+                    c = 0;
+                    for (k, (x, y)) in points.iter().enumerate() {
+                        c += native_shape::contains(&native[k / POINTS], *x, *y) as u64;
+                    }
+                },
+            ],
+        );
+        assert_eq!(a, b, "library and oracle differ");
+        let name = format!("{kind}, {place}");
+        print("contains", &name, &["library", "oracle", "std"], &times);
+    }
+}
+
+/// A conic's control, target and weight.
+type Conic = (Vec2, Vec2, f32);
+
+fn vec(r: &mut Random) -> Vec2 {
+    Vec2::new(r.within(0.0, 1000.0) as f32, r.within(0.0, 1000.0) as f32)
+}
+
+/// A conic from the pen that gives so many quads.
+fn conic(r: &mut Random, pen: Vec2, quads: usize) -> Conic {
+    loop {
+        let weight = match quads {
+            1 => r.within(0.9, 1.1),
+            _ => r.scaled(0.05, 1000.0),
+        };
+        let c = (vec(r), vec(r), weight as f32);
+        if written_path::quads(pen, c) == quads {
+            return c;
+        }
+    }
+}
+
+/// Paths, each from a point of its own.
+fn paths<T>(
+    make: impl Fn(&mut Random, Vec2) -> T,
+    target: impl Fn(&T) -> Vec2,
+) -> Vec<(Vec2, Vec<T>)> {
+    let mut random = Random(9);
+    (0..PATHS)
+        .map(|_| {
+            let start = vec(&mut random);
+            let mut pen = start;
+            let calls = (0..LENGTH)
+                .map(|_| {
+                    let call = make(&mut random, pen);
+                    pen = target(&call);
+                    call
+                })
+                .collect();
+            (start, calls)
+        })
+        .collect()
+}
+
+/// ns per call; the move that begins a path is spread over its calls.
+fn build<T>(
+    how: &str,
+    name: &str,
+    inputs: &[(Vec2, Vec<T>)],
+    ours: impl Fn(&mut Path, &T),
+    theirs: impl Fn(&mut written_path::PathBuilder, &T),
+) {
+    let (verbs, points) = (1 + 64 * LENGTH, 1 + 128 * LENGTH);
+    let mut path = Path::with_room(verbs, points);
+    let mut builder = written_path::with_room(verbs, points);
+    let times = least(
+        PATHS * LENGTH,
+        &mut [
+            &mut || {
+                for (start, calls) in inputs {
+                    path.clear();
+                    path.move_to(start.x, start.y);
+                    calls.iter().for_each(|c| ours(&mut path, c));
+                    black_box(&path);
+                }
+            },
+            &mut || {
+                for (start, calls) in inputs {
+                    written_path::clear(&mut builder);
+                    written_path::move_to(&mut builder, *start);
+                    calls.iter().for_each(|c| theirs(&mut builder, c));
+                    black_box(&builder);
+                }
+            },
+        ],
+    );
+    assert!(
+        written_path::same(&builder, &path),
+        "library and oracle differ"
+    );
+    print(name, how, &["library", "oracle"], &times);
+}
+
+fn lines() {
+    build(
+        "",
+        "line_to",
+        &paths(|r, _| vec(r), |to| *to),
+        |path, p| {
+            path.line_to(p.x, p.y);
+        },
+        |builder, p| written_path::line_to(builder, *p),
+    );
+}
+
+fn conics(quads: usize) {
+    build(
+        &format!("{quads} quads"),
+        "conic_to",
+        &paths(|r, pen| conic(r, pen, quads), |c| c.1),
+        |path, (ctrl, to, weight)| {
+            path.conic_to(ctrl.x, ctrl.y, to.x, to.y, *weight);
+        },
+        |builder, c| written_path::conic_to(builder, *c),
+    );
+}
+
+pub fn run(names: &[&str]) {
+    let asked = |name: &str| names.is_empty() || names.contains(&name);
+    for (kind, make) in KINDS {
+        if asked("new") {
+            new(kind, make);
+        }
+    }
+    for (kind, make) in KINDS {
+        if asked("contains") && kind != "two radii" {
+            contains(kind, make);
+        }
+    }
+    if asked("line_to") {
+        lines();
+    }
+    if asked("conic_to") {
+        [1, 8, 32].into_iter().for_each(conics);
+    }
+}

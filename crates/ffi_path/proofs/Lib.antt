@@ -1,0 +1,2 @@
+-- Laws of a record in lent numbers.
+pub mod Lending

@@ -1,0 +1,202 @@
+// Shapes for programs in C and Rust: a shape is made once, into floats that the caller lends, and asked
+// as often as is liked.
+ghost use mathlib.Core.Path.{_≡_};
+ghost use mathlib.Core.Bool.{cond};
+ghost use Prim.Native.Nat.{_+_, _≤_};
+ghost use lib.ListN.{length};
+ghost use Rattle.geometry.specs.Point.{one};
+ghost use Rattle.octant.specs.Binary32.{zero};
+ghost use Rattle.octant.specs.Octant.{point};
+ghost use Rattle.stream.specs.Stream.{put};
+ghost use Rattle.ffi_shape.specs.Layout.{pointFloats, octantFloats, quadrantFloats, shapeFloats, pointAt, octantAt, quadrantAt, boundsAt, radiiAt};
+ghost use Rattle.ffi_shape.specs.Making.{left, makeOf, cornersHold, holdsOf};
+use geometry::Point;
+use octant::Octant;
+use quadrant::Quadrant;
+use shape::Answer;
+use shape::Bounds;
+use shape::CornerRadii;
+use shape::RoundSuperellipse;
+
+// How many floats a shape is made of, and how many it is.
+const SIZES_LENGTH: usize = 12;
+
+const SHAPE_LENGTH: usize = 89;
+
+const WRONG_LENGTH: u32 = 100;
+
+fn store_point(floats: &mut [f32], at: usize, p: Point)
+    requires { ⌜ at + 2 ≤ length (now floats) ⌝ }
+    ensures { λ _. ⌜ now (floats .exit) ≡ put (now (floats .entry)) at (pointFloats p) ⌝ }
+{
+    floats[at] = p.x;
+    floats[at + 1] = p.y;
+}
+
+fn store_octant(floats: &mut [f32], at: usize, o: Octant)
+    requires { ⌜ at + 9 ≤ length (now floats) ⌝ }
+    ensures { λ _. ⌜ now (floats .exit) ≡ put (now (floats .entry)) at (octantFloats o) ⌝ }
+{
+    let curve = Point {
+        x: o.se_a,
+        y: o.se_n,
+    };
+    store_point(floats, at, o.offset);
+    store_point(floats, at + 2, curve);
+    store_point(floats, at + 4, o.circle_start);
+    store_point(floats, at + 6, o.circle_center);
+    floats[at + 8] = o.circle_max_angle;
+}
+
+fn store_quadrant(floats: &mut [f32], at: usize, q: Quadrant)
+    requires { ⌜ at + 22 ≤ length (now floats) ⌝ }
+    ensures { λ _. ⌜ now (floats .exit) ≡ put (now (floats .entry)) at (quadrantFloats q) ⌝ }
+{
+    store_point(floats, at, q.offset);
+    store_point(floats, at + 2, q.signed_scale);
+    store_octant(floats, at + 4, q.top);
+    store_octant(floats, at + 13, q.right);
+}
+
+fn flag(b: bool) -> f32
+    ensures { λ r. ⌜ r ≡ cond b one zero ⌝ }
+{
+    if b {
+        return 1.0;
+    }
+    0.0
+}
+
+fn store_shape(floats: &mut [f32], s: RoundSuperellipse)
+    requires { ⌜ length (now floats) ≡ 89 ⌝ }
+    ensures { λ _. ⌜ now (floats .exit) ≡ shapeFloats s ⌝ }
+{
+    store_quadrant(floats, 0, s.top_right);
+    store_quadrant(floats, 22, s.bottom_right);
+    store_quadrant(floats, 44, s.bottom_left);
+    store_quadrant(floats, 66, s.top_left);
+    floats[88] = flag(s.all_corners_same);
+}
+
+fn point_at(floats: &[f32], at: usize) -> Point
+    requires { ⌜ at + 2 ≤ length (now floats) ⌝ }
+    ensures { λ r. ⌜ r ≡ pointAt (now (floats .entry)) at ⌝ }
+{
+    Point {
+        x: floats[at],
+        y: floats[at + 1],
+    }
+}
+
+fn octant_at(floats: &[f32], at: usize) -> Octant
+    requires { ⌜ at + 9 ≤ length (now floats) ⌝ }
+    ensures { λ r. ⌜ r ≡ octantAt (now (floats .entry)) at ⌝ }
+{
+    Octant {
+        offset: point_at(floats, at),
+        se_a: floats[at + 2],
+        se_n: floats[at + 3],
+        circle_start: point_at(floats, at + 4),
+        circle_center: point_at(floats, at + 6),
+        circle_max_angle: floats[at + 8],
+    }
+}
+
+fn quadrant_at(floats: &[f32], at: usize) -> Quadrant
+    requires { ⌜ at + 22 ≤ length (now floats) ⌝ }
+    ensures { λ r. ⌜ r ≡ quadrantAt (now (floats .entry)) at ⌝ }
+{
+    Quadrant {
+        offset: point_at(floats, at),
+        signed_scale: point_at(floats, at + 2),
+        top: octant_at(floats, at + 4),
+        right: octant_at(floats, at + 13),
+    }
+}
+
+fn bounds_at(sizes: &[f32]) -> Bounds
+    requires { ⌜ length (now sizes) ≡ 12 ⌝ }
+    ensures { λ r. ⌜ r ≡ boundsAt (now (sizes .entry)) ⌝ }
+{
+    Bounds {
+        min: point_at(sizes, 0),
+        max: point_at(sizes, 2),
+    }
+}
+
+fn radii_at(sizes: &[f32]) -> CornerRadii
+    requires { ⌜ length (now sizes) ≡ 12 ⌝ }
+    ensures { λ r. ⌜ r ≡ radiiAt (now (sizes .entry)) ⌝ }
+{
+    CornerRadii {
+        top_left: point_at(sizes, 4),
+        top_right: point_at(sizes, 6),
+        bottom_left: point_at(sizes, 8),
+        bottom_right: point_at(sizes, 10),
+    }
+}
+
+// Makes a shape of min, max and the radii top left, top right, bottom left, bottom right, into 89
+// floats. 0, or document 01's number; the shape's floats change only with a 0.
+#[no_mangle]
+pub extern "C" fn shackletongue_shape(sizes: &[f32], shape: &mut [f32]) -> u32
+    ensures { λ r. ⌜ left r (now (shape .exit)) ≡ makeOf (now (sizes .entry)) (now (shape .entry)) ⌝ }
+{
+    if sizes.len() != SIZES_LENGTH {
+        return WRONG_LENGTH;
+    }
+    if shape.len() != SHAPE_LENGTH {
+        return WRONG_LENGTH;
+    }
+    match RoundSuperellipse::new(bounds_at(sizes), radii_at(sizes)) {
+        Answer::Made(s) => {
+            store_shape(shape, s);
+            0
+        }
+        Answer::BeyondLimit => 2,
+        Answer::NegativeRadius => 3,
+        Answer::Inverted => 4,
+    }
+}
+
+// How many corners describe a shape: all, or one where they are the same.
+fn corner_count(differ: bool) -> usize
+    ensures { λ r. ⌜ r ≡ cond differ 4 1 ⌝ }
+{
+    if differ {
+        return 4;
+    }
+    1
+}
+
+// Whether the first corners of a shape hold the point. They are read one by one from the floats, and
+// asked at one place, so that none is copied.
+fn corners_hold(shape: &[f32], p: Point, check_quadrant: bool, corners: usize) -> bool
+    requires { ⌜ (length (now shape) ≡ 89) × (corners ≤ 4) ⌝ }
+    ensures { λ r. ⌜ r ≡ cornersHold (now (shape .entry)) p «check_quadrant» corners 0 ⌝ }
+{
+    let mut k = 0;
+    while k < corners {
+        if containment::corner_contains(quadrant_at(shape, 22 * k), p, check_quadrant) {
+            k += 1;
+        } else {
+            return false;
+        }
+    }
+    true
+}
+
+// 1 where the shape contains the point, 0 where not.
+#[no_mangle]
+pub extern "C" fn shackletongue_contains(shape: &[f32], x: f32, y: f32) -> u32
+    ensures { λ r. ⌜ r ≡ holdsOf (now (shape .entry)) (point x y) ⌝ }
+{
+    if shape.len() != SHAPE_LENGTH {
+        return WRONG_LENGTH;
+    }
+    let differ = shape[88] == 0.0;
+    if corners_hold(shape, Point { x, y }, differ, corner_count(differ)) {
+        return 1;
+    }
+    0
+}
