@@ -19,11 +19,11 @@ fn stepped(x: f32, steps: i32) -> f32 {
     )
 }
 
-fn uniform(min: [f32; 2], max: [f32; 2], radius: [f32; 2]) -> Shape {
+pub fn uniform(min: [f32; 2], max: [f32; 2], radius: [f32; 2]) -> Shape {
     cornered(min, max, [radius; 4])
 }
 
-fn cornered(min: [f32; 2], max: [f32; 2], radii: [[f32; 2]; 4]) -> Shape {
+pub fn cornered(min: [f32; 2], max: [f32; 2], radii: [[f32; 2]; 4]) -> Shape {
     let mut f = [0.0; 12];
     f[..2].copy_from_slice(&min);
     f[2..4].copy_from_slice(&max);
