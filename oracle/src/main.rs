@@ -4,11 +4,17 @@
 //!        oracle shape-fields       every field of each shape on standard input
 //!        oracle replay-lists       calls, streams and points for the program `replay`
 //!        oracle replay             the answers to such a text on standard input
+//!        oracle fascia             the report on the panel file on standard input
+//!        oracle panel-files        panel files, good and damaged, for the program `panels`
+//!        oracle panels             the reports on such files on standard input
+//!        oracle largest-panel      a panel file of 630 shapes and 2,730 touches
 
-use std::io::{self, BufRead, Write};
+use std::io::{self, BufRead, Read, Write};
 
 mod answers;
 mod outline_lists;
+mod panel;
+mod panel_files;
 mod replay;
 mod replay_lists;
 mod shapes;
@@ -45,6 +51,13 @@ fn print_replay(out: &mut impl Write) -> io::Result<()> {
     print_lines(out, replay.out)
 }
 
+/// All of standard input.
+fn input() -> io::Result<Vec<u8>> {
+    let mut bytes = Vec::new();
+    io::stdin().lock().read_to_end(&mut bytes)?;
+    Ok(bytes)
+}
+
 fn main() -> io::Result<()> {
     let mut out = io::BufWriter::new(io::stdout().lock());
     let words: Vec<String> = std::env::args().skip(1).collect();
@@ -55,8 +68,12 @@ fn main() -> io::Result<()> {
         ["shape-fields"] => print_answers(&mut out, shapes::answer),
         ["replay-lists"] => print_lines(&mut out, replay_lists::lists()),
         ["replay"] => print_replay(&mut out),
+        ["fascia"] => print_lines(&mut out, panel::report(&input()?)),
+        ["panel-files"] => print_lines(&mut out, panel_files::lines()),
+        ["panels"] => print_lines(&mut out, panel_files::reports(&input()?)),
+        ["largest-panel"] => out.write_all(&panel_files::largest()),
         _ => {
-            eprintln!("usage: oracle vectors | answers | shapes | shape-fields | replay-lists | replay");
+            eprintln!("usage: oracle vectors | answers | shapes | shape-fields | replay-lists | replay | fascia | panel-files | panels | largest-panel");
             std::process::exit(2);
         }
     }?;

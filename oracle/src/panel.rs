@@ -1,0 +1,105 @@
+//! Document 01's panel file and its program `fascia`, over the original.
+
+use oracle::vec2::Vec2;
+use oracle::written::path::{access, PathBuilder};
+use oracle::written::superellipse::RoundSuperellipse;
+
+use crate::stream::{shape, Refusal};
+
+/// The longest file.
+pub const LIMIT: usize = 65_536;
+
+enum Record {
+    Button(Result<RoundSuperellipse, Refusal>),
+    Touch(Vec2),
+}
+
+fn floats<const N: usize>(payload: &[u8]) -> [f32; N] {
+    std::array::from_fn(|i| f32::from_le_bytes(payload[4 * i..4 * i + 4].try_into().unwrap()))
+}
+
+/// The record in front and how many bytes it takes, None where it is broken.
+fn first(file: &[u8]) -> Option<(Record, usize)> {
+    let number = |i: usize| Some(u16::from_le_bytes([*file.get(i)?, *file.get(i + 1)?]));
+    let (len, kind) = (number(0)? as usize, number(2)?);
+    let payload = file.get(4..4 + len)?;
+    let record = match (kind, len) {
+        (1, 48) => Record::Button(shape(&floats(payload))),
+        (2, 8) => {
+            let [x, y] = floats(payload);
+            Record::Touch(Vec2::new(x, y))
+        }
+        _ => return None,
+    };
+    Some((record, 4 + len))
+}
+
+/// The records, or the offset of the first that is broken.
+fn records(file: &[u8]) -> Result<Vec<Record>, usize> {
+    if file.len() > LIMIT {
+        return Err(0);
+    }
+    let mut list = Vec::new();
+    let mut at = 0;
+    while at < file.len() {
+        let (record, size) = first(&file[at..]).ok_or(at)?;
+        list.push(record);
+        at += size;
+    }
+    Ok(list)
+}
+
+/// Where each touch goes: each shape is made once.
+fn places(records: &[Record]) -> Vec<Option<usize>> {
+    let shapes = records.iter().filter_map(|r| match r {
+        Record::Button(shape) => Some(shape),
+        Record::Touch(_) => None,
+    });
+    let shapes: Vec<_> = shapes.collect();
+    let place = |p: Vec2| {
+        let takes = |s: &&Result<RoundSuperellipse, Refusal>| matches!(s, Ok(s) if s.contains(p));
+        shapes.iter().position(takes)
+    };
+    let touches = records.iter().filter_map(|r| match r {
+        Record::Touch(p) => Some(place(*p)),
+        Record::Button(_) => None,
+    });
+    touches.collect()
+}
+
+fn shape_line(index: usize, shape: &Result<RoundSuperellipse, Refusal>) -> String {
+    match shape {
+        Ok(shape) => {
+            let mut b = PathBuilder::new();
+            shape.add_to(&mut b);
+            let (verbs, points) = (access::verbs(&b).len(), access::points(&b).len());
+            format!("shape {index} {verbs} {points}")
+        }
+        Err(refusal) => format!("shape {index} {refusal}"),
+    }
+}
+
+/// The lines of the report.
+pub fn report(file: &[u8]) -> Vec<String> {
+    let records = match records(file) {
+        Ok(records) => records,
+        Err(at) => return vec![format!("refused 7 at {at}")],
+    };
+    let mut places = places(&records).into_iter();
+    let mut lines = Vec::new();
+    let mut index = 0;
+    for record in &records {
+        lines.push(match record {
+            Record::Button(shape) => {
+                index += 1;
+                shape_line(index - 1, shape)
+            }
+            Record::Touch(_) => match places.next().unwrap() {
+                Some(i) => format!("touch {i}"),
+                None => "touch none".to_string(),
+            },
+        });
+    }
+    lines.push("end".to_string());
+    lines
+}
