@@ -1,0 +1,21 @@
+-- `lent::move_to` meets its contract: the walk of a call that takes a point, over `move_answer`. Assumes nothing.
+use contract.Running.{givenOf, tables, tablesOf}
+use denote.Triple.Spec.{tripleOf}
+use denote.Triple.Table.{entered, cited}
+use Rattle.calls.specs.declared.Call.the-variants.{MoveTo}
+use Rattle.lent.proofs.Pointed as pointed
+use Rattle.lent.proofs.move_answer.Symbol as beneath-def
+use Rattle.lent.proofs.move_answer.Symbol.{name as #beneath}
+use Rattle.lent.proofs.move_answer.Met as beneath-thm
+use Rattle.lent.proofs.move_to.Key.{name as #self}
+use Rattle.lent.proofs.move_to as self
+use Rattle.lent.proofs.move_to.Statement as stated
+use Rattle.lent.proofs.move_to.Code as code
+
+pub move-to-spec : {M : Type 1} → stated.statement M
+unfolding code.routine tablesOf
+move-to-spec 𝓤 H 𝓜 𝓖 𝓡 =
+    entered 𝓤 H (tripleOf 𝓤 H (𝓖 .A) self.signature (self.spec 𝓤 H (𝓖 .A) (𝓜 .mem) (𝓡 .run)))
+    (tables 𝓤 H 𝓜 𝓡 code.env .C) (tables 𝓤 H 𝓜 𝓡 code.env .Λ) #self code.function (code.unfolded 𝓤 H 𝓜 𝓡)
+    (pointed.meets MoveTo #beneath 𝓤 H (𝓖 .A) (givenOf 𝓤 H 𝓜 𝓖) (tablesOf 𝓤 H 𝓜 (tables 𝓤 H 𝓜 𝓡 code.env))
+    (cited 𝓤 H (pointed.Called MoveTo 𝓤 H (𝓖 .A)) 𝓜 𝓡 code.env #beneath beneath-def.routine code.calls-lent·move-answer (beneath-thm.met 𝓤 H 𝓜 𝓖 𝓡)))
