@@ -1,7 +1,7 @@
 // One eighth of the outline, solved: a superellipse arc that hands over to a circular arc with the same tangent.
 // Binary32 throughout, every operation rounded once, with the Rust's names and in its order.
 ghost use mathlib.Core.Path.{_≡_};
-ghost use Prim.Native.Nat.{_<_};
+ghost use Prim.Native.Nat.{_+_, _<_};
 ghost use Rattle.octant.specs.Degree.{cornerAt, leftRowOf, tableStepsOf, nAndXjOf};
 ghost use Rattle.octant.specs.Octant.{circleCenterThroughOf, angleBetweenOf, computeOctantOf, movedOf};
 ghost use Rattle.octant.specs.Stages.{begunOf, heightOf, slopeOf, finishedOf};
@@ -69,6 +69,27 @@ fn corner(row: usize, column: usize) -> f32
     CORNER_TABLE[row][column]
 }
 
+// A row of the table and the next, read from one copy of it.
+struct RowPair {
+    n: f32,
+    k: f32,
+    next_n: f32,
+    next_k: f32,
+}
+
+fn rows_at(left: usize) -> RowPair
+    requires { ⌜ left < 10 ⌝ }
+    ensures { λ r. ⌜ (r .n ≡ cornerAt left 0) × (r .k ≡ cornerAt left 1) × (r .«next_n» ≡ cornerAt (left + 1) 0) × (r .«next_k» ≡ cornerAt (left + 1) 1) ⌝ }
+{
+    let table = CORNER_TABLE;
+    RowPair {
+        n: table[left][0],
+        k: table[left][1],
+        next_n: table[left + 1][0],
+        next_k: table[left + 1][1],
+    }
+}
+
 // The whole part of steps, found by comparisons, but at most last; 0 for a NaN.
 pub fn left_row(steps: f32, last: u8) -> usize
     ensures { λ r. ⌜ r ≡ leftRowOf steps last ⌝ }
@@ -110,8 +131,9 @@ pub fn n_and_xj(ratio: f32) -> NAndXj
     let steps = table_steps(ieee::clamp(ratio, MIN_RATIO, SECOND_MAX_RATIO));
     let left = left_row(steps, 9);
     let frac = steps - left as f32;
-    let n = (1.0 - frac) * corner(left, 0) + frac * corner(left + 1, 0);
-    let k_xj = (1.0 - frac) * corner(left, 1) + frac * corner(left + 1, 1);
+    let row = rows_at(left);
+    let n = (1.0 - frac) * row.n + frac * row.next_n;
+    let k_xj = (1.0 - frac) * row.k + frac * row.next_k;
     NAndXj {
         n,
         xj_over_a: 1.0 - 1.0 / k_xj,

@@ -21,12 +21,13 @@ returns : tie.Need-returns
 returns c =
     let a = c .before .before .before .before .args in
     let half = a .half-size in
-    let same = c .before .before .before .is-one-float .ensures (c .before .before .if1 .taken) in
-    (c .before .compute-octant .ensures,
-    c .moved .ensures
-    ∙ ap (λ (o : Octant). movedOf o (a .to)) (c .before .compute-octant .ensures)
-    ∙ moved-octant (a .from) (a .to) (half .x) (a .radius)
-    ∙ ap (λ (x : Float). computeOctantOf (a .to) x (a .radius)) same)
+    let same = c .before .before .before .is-one-float .ensures (c .before .before .if1 .taken) in (
+      c .before .compute-octant .ensures,
+      c .moved .ensures
+          ∙ ap (λ (o : Octant). movedOf o (a .to)) (c .before .compute-octant .ensures)
+          ∙ moved-octant (a .from) (a .to) (half .x) (a .radius)
+          ∙ ap (λ (x : Float). computeOctantOf (a .to) x (a .radius)) same,
+    )
 
 compute-octants-requires : tie.Need-compute-octants-requires
 compute-octants-requires c κs = search needs
