@@ -93,7 +93,7 @@ pub fn conic_to(
     ensures { λ r. ⌜ conicOutcomeOf r (now (verbs .exit)) (now (points .exit)) ≡ step (state b (now (verbs .entry)) (now (points .entry))) (Call.ConicTo ctrl to weight) ⌝ }
 {
     let l = conic::lower(calls::conic_from(b, ctrl, to, weight));
-    let a = calls::admit(b, verbs.len(), points.len(), calls::lowered_need(b, l));
+    let a = calls::admit_lowered(b, verbs.len(), points.len(), l);
     let Built::Done(_) = a else {
         return calls::with_word(a, 0);
     };

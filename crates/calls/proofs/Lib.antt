@@ -2,3 +2,4 @@
 pub mod Opening
 pub mod Admission
 pub mod Opened
+pub mod Largest

@@ -11,6 +11,9 @@ use geometry::Point;
 use stream::Builder;
 use stream::Need;
 
+// The most quads that a conic is drawn as.
+const MOST_QUADS: u32 = 64;
+
 pub enum Call {
     MoveTo(Point),
     LineTo(Point),
@@ -130,6 +133,18 @@ pub fn admit(b: Builder, verbs: usize, floats: usize, need: Need) -> Built
         return Built::Done(b);
     }
     Built::NoRoom(b)
+}
+
+// The same of a lowered conic. Buffers with room for the largest need, 64 quads, have room for any:
+// only in fuller ones are the quads counted.
+pub fn admit_lowered(b: Builder, verbs: usize, floats: usize, l: Lowered) -> Built
+    ensures { λ r. ⌜ r ≡ admitOf b verbs floats (needOf (elementsOf (opening (isEmpty b) ++ loweredOf l))) ⌝ }
+{
+    let a = admit(b, verbs, floats, opened_need(b, MOST_QUADS, 2 * MOST_QUADS));
+    let Built::Done(_) = a else {
+        return admit(b, verbs, floats, lowered_need(b, l));
+    };
+    a
 }
 
 pub fn with_word(a: Built, word: u64) -> ConicBuilt

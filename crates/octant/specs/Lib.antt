@@ -1,3 +1,4 @@
 pub mod Binary32
 pub mod Degree
 pub mod Octant
+pub mod Stages

@@ -1,9 +1,10 @@
 // One eighth of the outline, solved: a superellipse arc that hands over to a circular arc with the same tangent.
 // Binary32 throughout, every operation rounded once, with the Rust's names and in its order.
 ghost use mathlib.Core.Path.{_≡_};
-ghost use Prim.Native.Nat.{_<_};
+ghost use Prim.Native.Nat.{_+_, _<_};
 ghost use Rattle.octant.specs.Degree.{cornerAt, leftRowOf, tableStepsOf, nAndXjOf};
 ghost use Rattle.octant.specs.Octant.{circleCenterThroughOf, angleBetweenOf, computeOctantOf, movedOf};
+ghost use Rattle.octant.specs.Stages.{begunOf, heightOf, slopeOf, finishedOf};
 use geometry::Point;
 
 // The radius up to which a corner is square.
@@ -68,6 +69,27 @@ fn corner(row: usize, column: usize) -> f32
     CORNER_TABLE[row][column]
 }
 
+// A row of the table and the next, read from one copy of it.
+struct RowPair {
+    n: f32,
+    k: f32,
+    next_n: f32,
+    next_k: f32,
+}
+
+fn rows_at(left: usize) -> RowPair
+    requires { ⌜ left < 10 ⌝ }
+    ensures { λ r. ⌜ (r .n ≡ cornerAt left 0) × (r .k ≡ cornerAt left 1) × (r .«next_n» ≡ cornerAt (left + 1) 0) × (r .«next_k» ≡ cornerAt (left + 1) 1) ⌝ }
+{
+    let table = CORNER_TABLE;
+    RowPair {
+        n: table[left][0],
+        k: table[left][1],
+        next_n: table[left + 1][0],
+        next_k: table[left + 1][1],
+    }
+}
+
 // The whole part of steps, found by comparisons, but at most last; 0 for a NaN.
 pub fn left_row(steps: f32, last: u8) -> usize
     ensures { λ r. ⌜ r ≡ leftRowOf steps last ⌝ }
@@ -109,8 +131,9 @@ pub fn n_and_xj(ratio: f32) -> NAndXj
     let steps = table_steps(ieee::clamp(ratio, MIN_RATIO, SECOND_MAX_RATIO));
     let left = left_row(steps, 9);
     let frac = steps - left as f32;
-    let n = (1.0 - frac) * corner(left, 0) + frac * corner(left + 1, 0);
-    let k_xj = (1.0 - frac) * corner(left, 1) + frac * corner(left + 1, 1);
+    let row = rows_at(left);
+    let n = (1.0 - frac) * row.n + frac * row.next_n;
+    let k_xj = (1.0 - frac) * row.k + frac * row.next_k;
     NAndXj {
         n,
         xj_over_a: 1.0 - 1.0 / k_xj,
@@ -146,6 +169,64 @@ pub fn angle_between(from: Point, to: Point) -> f32
     trigonometry::atan2(to.y, to.x) - trigonometry::atan2(from.y, from.x)
 }
 
+// A solve as far as its first power: the gap at the corner, the degree, and the x where the arcs meet.
+struct Begun {
+    g: f32,
+    n: f32,
+    xj: f32,
+    power: f32,
+}
+
+fn begin(a: f32, radius: f32) -> Begun
+    ensures { λ r. ⌜ r ≡ begunOf a radius ⌝ }
+{
+    let ratio = a * 2.0 / radius;
+    let g = GAP_FACTOR * radius;
+    let fit = n_and_xj(ratio);
+    Begun {
+        g,
+        n: fit.n,
+        xj: fit.xj_over_a * a,
+        power: exponential::pow(fit.xj_over_a, fit.n),
+    }
+}
+
+// The y where the arcs meet.
+fn height(s: Begun, a: f32) -> f32
+    ensures { λ r. ⌜ r ≡ heightOf s a ⌝ }
+{
+    exponential::pow(1.0 - s.power, 1.0 / s.n) * a
+}
+
+// The slope of the tangent there.
+fn slope(s: Begun, yj: f32) -> f32
+    ensures { λ r. ⌜ r ≡ slopeOf s yj ⌝ }
+{
+    exponential::pow(s.xj / yj, s.n - 1.0)
+}
+
+fn finished(center: Point, a: f32, s: Begun, yj: f32, tan_phij: f32) -> Octant
+    ensures { λ r. ⌜ r ≡ finishedOf center a s yj «tan_phij» ⌝ }
+{
+    let xj = s.xj;
+    let g = s.g;
+    let d = (xj - tan_phij * yj) / (1.0 - tan_phij);
+    let r = (a - d - g) * SQRT_2;
+    let point_m = Point { x: a - g, y: a - g };
+    let point_j = Point { x: xj, y: yj };
+    let circle_center = circle_center_through(point_j, point_m, r);
+    let from = geometry::sub(point_m, circle_center);
+    let to = geometry::sub(point_j, circle_center);
+    Octant {
+        offset: center,
+        se_a: a,
+        se_n: s.n,
+        circle_start: point_j,
+        circle_center,
+        circle_max_angle: angle_between(from, to),
+    }
+}
+
 pub fn compute_octant(center: Point, a: f32, radius: f32) -> Octant
     ensures { λ r. ⌜ r ≡ computeOctantOf center a radius ⌝ }
 {
@@ -159,27 +240,37 @@ pub fn compute_octant(center: Point, a: f32, radius: f32) -> Octant
             circle_max_angle: 0.0,
         };
     }
-    let ratio = a * 2.0 / radius;
-    let g = GAP_FACTOR * radius;
-    let fit = n_and_xj(ratio);
-    let n = fit.n;
-    let xj = fit.xj_over_a * a;
-    let yj = exponential::pow(1.0 - exponential::pow(fit.xj_over_a, n), 1.0 / n) * a;
-    let tan_phij = exponential::pow(xj / yj, n - 1.0);
-    let d = (xj - tan_phij * yj) / (1.0 - tan_phij);
-    let r = (a - d - g) * SQRT_2;
-    let point_m = Point { x: a - g, y: a - g };
-    let point_j = Point { x: xj, y: yj };
-    let circle_center = circle_center_through(point_j, point_m, r);
-    let from = geometry::sub(point_m, circle_center);
-    let to = geometry::sub(point_j, circle_center);
-    Octant {
-        offset: center,
-        se_a: a,
-        se_n: n,
-        circle_start: point_j,
-        circle_center,
-        circle_max_angle: angle_between(from, to),
+    let s = begin(a, radius);
+    let yj = height(s, a);
+    finished(center, a, s, yj, slope(s, yj))
+}
+
+// Two octants of one radius.
+pub struct Octants {
+    pub first: Octant,
+    pub second: Octant,
+}
+
+// Two solves in step. Within a solve each power waits for the one before; a power of the other solve
+// need not, so that the processor works at both at once.
+pub fn compute_octants(c1: Point, a1: f32, c2: Point, a2: f32, radius: f32) -> Octants
+    ensures { λ r. ⌜ (r .first ≡ computeOctantOf c1 a1 radius) × (r .second ≡ computeOctantOf c2 a2 radius) ⌝ }
+{
+    if CLOSE_ENOUGH >= radius {
+        return Octants {
+            first: compute_octant(c1, a1, radius),
+            second: compute_octant(c2, a2, radius),
+        };
+    }
+    let s1 = begin(a1, radius);
+    let s2 = begin(a2, radius);
+    let y1 = height(s1, a1);
+    let y2 = height(s2, a2);
+    let t1 = slope(s1, y1);
+    let t2 = slope(s2, y2);
+    Octants {
+        first: finished(c1, a1, s1, y1, t1),
+        second: finished(c2, a2, s2, y2, t2),
     }
 }
 

@@ -6,6 +6,7 @@ ghost use Rattle.octant.specs.Octant.{computeOctantOf};
 ghost use Rattle.quadrant.specs.Quadrant.{forwardScaleOf, orSignOf, computeQuadrantOf, bothZero, splitOf};
 use geometry::Point;
 use octant::Octant;
+use octant::Octants;
 
 // Two octants that meet on the diagonal.
 pub struct Quadrant {
@@ -49,14 +50,17 @@ fn is_one_float(x: f32, y: f32) -> bool
 }
 
 // Octants of the same half-extent differ in their offset alone, so one solve serves both.
-fn right_octant(top: Octant, from: Point, to: Point, half_size: Point, radius: f32) -> Octant
-    requires { ⌜ top ≡ computeOctantOf from («half_size» .x) radius ⌝ }
-    ensures { λ r. ⌜ r ≡ computeOctantOf to («half_size» .y) radius ⌝ }
+fn two_octants(from: Point, to: Point, half_size: Point, radius: f32) -> Octants
+    ensures { λ r. ⌜ (r .first ≡ computeOctantOf from («half_size» .x) radius) × (r .second ≡ computeOctantOf to («half_size» .y) radius) ⌝ }
 {
     if is_one_float(half_size.x, half_size.y) {
-        return octant::moved(top, to);
+        let top = octant::compute_octant(from, half_size.x, radius);
+        return Octants {
+            first: top,
+            second: octant::moved(top, to),
+        };
     }
-    octant::compute_octant(to, half_size.y, radius)
+    octant::compute_octants(from, half_size.x, to, half_size.y, radius)
 }
 
 pub fn compute_quadrant(center: Point, corner: Point, in_radii: Point, sign: Point) -> Quadrant
@@ -79,12 +83,14 @@ pub fn compute_quadrant(center: Point, corner: Point, in_radii: Point, sign: Poi
     let c = norm_half_size.x - norm_half_size.y;
     let top_offset = Point { x: 0.0, y: -c };
     let right_offset = Point { x: c, y: 0.0 };
-    let top = octant::compute_octant(top_offset, norm_half_size.x, norm_radius);
+    let octants = two_octants(top_offset, right_offset, norm_half_size, norm_radius);
+    let top = octants.first;
+    let right = octants.second;
     Quadrant {
         offset: center,
         signed_scale,
         top,
-        right: right_octant(top, top_offset, right_offset, norm_half_size, norm_radius),
+        right,
     }
 }
 

@@ -1,7 +1,7 @@
-use Rattle.octant.specs.Degree.{nAndXjOf}
 use native.Mathlib.Omega.{arith}
-use borrow.Author.Needs.{needs}
 use Rattle.octant.proofs.Rows.{casts}
+use Rattle.octant.specs.Degree.{nAndXjOf}
+use borrow.Author.Needs.{needs}
 use Rattle.octant.proofs.n_and_xj.Statement.{statement}
 use Rattle.octant.proofs.n_and_xj.Tie as tie
 
@@ -27,27 +27,12 @@ left-row-requires c κs = search needs
 int-to-float-frac : tie.Need-int-to-float-frac
 int-to-float-frac c = casts (c .before .left-row .result) (omega arith)
 
-corner-requires-3 : tie.Need-corner-requires-3
-corner-requires-3 c κs = search needs
-
-add-corner : tie.Need-add-corner
-add-corner c = search needs
-
-corner-requires-4 : tie.Need-corner-requires-4
-corner-requires-4 c κs = search needs
-
-corner-requires-5 : tie.Need-corner-requires-5
-corner-requires-5 c κs = search needs
-
-add-corner-2 : tie.Need-add-corner-2
-add-corner-2 c = search needs
-
-corner-requires-6 : tie.Need-corner-requires-6
-corner-requires-6 c κs = search needs
+rows-at-requires : tie.Need-rows-at-requires
+rows-at-requires c κs = search needs
 
 returns-2 : tie.Need-returns-2
 unfolding nAndXjOf
-returns-2 c = rw (c .before .before .before .before .before .before .before .before .if1 .left, ← c .before .before .before .before .before .before .before .clamp .ensures, ← c .before .before .before .before .before .before .table-steps .ensures, ← c .before .before .before .before .before .left-row .ensures, ← c .before .before .before .corner3 .ensures, ← c .before .before .corner4 .ensures, ← c .before .corner5 .ensures, ← c .corner6 .ensures)
+returns-2 c = rw (c .before .before .before .before .before .before .before .before .before .if1 .left, ← c .before .before .before .before .before .before .before .before .clamp .ensures, ← c .before .before .before .before .before .before .before .table-steps .ensures, ← c .before .before .before .before .before .before .left-row .ensures, ← c .before .before .before .before .rows-at .ensures .0, ← c .before .before .before .before .rows-at .ensures .2, ← c .before .before .before .before .rows-at .ensures .1, ← c .before .before .before .before .rows-at .ensures .3)
 
 pub n-and-xj-spec : {M : Type 1} → statement M
 n-and-xj-spec =
@@ -60,10 +45,5 @@ n-and-xj-spec =
     table-steps-requires
     left-row-requires
     int-to-float-frac
-    corner-requires-3
-    add-corner
-    corner-requires-4
-    corner-requires-5
-    add-corner-2
-    corner-requires-6
+    rows-at-requires
     returns-2)

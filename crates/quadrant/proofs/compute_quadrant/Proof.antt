@@ -45,15 +45,12 @@ or-sign-requires c κs = search needs
 or-sign-requires-2 : tie.Need-or-sign-requires-2
 or-sign-requires-2 c κs = search needs
 
-compute-octant-requires : tie.Need-compute-octant-requires
-compute-octant-requires c κs = search needs
-
-right-octant-requires : tie.Need-right-octant-requires
-right-octant-requires c κs = search needs
+two-octants-requires : tie.Need-two-octants-requires
+two-octants-requires c κs = search needs
 
 returns : tie.Need-returns
 unfolding computeQuadrantOf
-returns c = rw (← c .before .before .before .before .before .before .before .before .before .before .before .before .before .before .before .before .sub .ensures, ← c .before .before .before .before .before .before .before .before .before .before .before .before .before .before .before .abs .ensures, ← c .before .before .before .before .before .before .before .before .before .before .before .before .before .before .abs2 .ensures, ← c .before .before .before .before .before .before .before .before .before .before .before .before .before .min .ensures, ← c .before .before .before .before .before .before .before .before .before .before .before .before .abs3 .ensures, ← c .before .before .before .before .before .before .before .before .before .before .before .abs4 .ensures, ← c .before .before .before .before .before .before .before .before .before .before .min2 .ensures, ← c .before .before .before .before .before .before .before .before .before .min3 .ensures, ← c .before .before .before .before .before .before .before .before .forward-scale .ensures, ← c .before .before .before .before .before .before .before .abs5 .ensures, ← c .before .before .before .before .before .before .div .ensures, ← c .before .before .before .before .before .div2 .ensures, ← c .before .before .before .before .or-sign .ensures, ← c .before .before .before .or-sign2 .ensures, ← c .before .compute-octant .ensures, ← c .right-octant .ensures)
+returns c = rw (← c .before .before .before .before .before .before .before .before .before .before .before .before .before .before .before .before .before .sub .ensures, ← c .before .before .before .before .before .before .before .before .before .before .before .before .before .before .before .before .abs .ensures, ← c .before .before .before .before .before .before .before .before .before .before .before .before .before .before .before .abs2 .ensures, ← c .before .before .before .before .before .before .before .before .before .before .before .before .before .before .min .ensures, ← c .before .before .before .before .before .before .before .before .before .before .before .before .before .abs3 .ensures, ← c .before .before .before .before .before .before .before .before .before .before .before .before .abs4 .ensures, ← c .before .before .before .before .before .before .before .before .before .before .before .min2 .ensures, ← c .before .before .before .before .before .before .before .before .before .before .min3 .ensures, ← c .before .before .before .before .before .before .before .before .before .forward-scale .ensures, ← c .before .before .before .before .before .before .before .before .abs5 .ensures, ← c .before .before .before .before .before .before .before .div .ensures, ← c .before .before .before .before .before .before .div2 .ensures, ← c .before .before .before .before .before .or-sign .ensures, ← c .before .before .before .before .or-sign2 .ensures, ← c .before .before .two-octants .ensures .0, ← c .before .before .two-octants .ensures .1)
 
 pub compute-quadrant-spec : {M : Type 1} → statement M
 compute-quadrant-spec =
@@ -73,6 +70,5 @@ compute-quadrant-spec =
     div-requires-2
     or-sign-requires
     or-sign-requires-2
-    compute-octant-requires
-    right-octant-requires
+    two-octants-requires
     returns)

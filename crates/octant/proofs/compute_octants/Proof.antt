@@ -1,0 +1,61 @@
+use Rattle.octant.proofs.Solving.{solved}
+use borrow.Author.Needs.{needs}
+use Rattle.octant.proofs.compute_octants.Statement.{statement}
+use Rattle.octant.proofs.compute_octants.Tie as tie
+
+compute-octant-requires : tie.Need-compute-octant-requires
+compute-octant-requires c κs = search needs
+
+compute-octant-requires-2 : tie.Need-compute-octant-requires-2
+compute-octant-requires-2 c κs = search needs
+
+returns : tie.Need-returns
+returns c = search needs
+
+begin-requires : tie.Need-begin-requires
+begin-requires c κs = search needs
+
+begin-requires-2 : tie.Need-begin-requires-2
+begin-requires-2 c κs = search needs
+
+height-requires : tie.Need-height-requires
+height-requires c κs = search needs
+
+height-requires-2 : tie.Need-height-requires-2
+height-requires-2 c κs = search needs
+
+slope-requires : tie.Need-slope-requires
+slope-requires c κs = search needs
+
+slope-requires-2 : tie.Need-slope-requires-2
+slope-requires-2 c κs = search needs
+
+finished-requires : tie.Need-finished-requires
+finished-requires c κs = search needs
+
+finished-requires-2 : tie.Need-finished-requires-2
+finished-requires-2 c κs = search needs
+
+returns-2 : tie.Need-returns-2
+returns-2 c =
+    let a = c .before .before .before .before .before .before .before .before .before .args in (
+      solved (a .c1) (a .a1) (a .radius) _ _ _ _ (c .before .before .before .before .before .before .before .before .if1 .left) (c .before .before .before .before .before .before .before .begin .ensures) (c .before .before .before .before .before .height .ensures) (c .before .before .before .slope .ensures) (c .before .finished .ensures),
+      solved (a .c2) (a .a2) (a .radius) _ _ _ _ (c .before .before .before .before .before .before .before .before .if1 .left) (c .before .before .before .before .before .before .begin2 .ensures) (c .before .before .before .before .height2 .ensures) (c .before .before .slope2 .ensures) (c .finished2 .ensures),
+    )
+
+pub compute-octants-spec : {M : Type 1} → statement M
+compute-octants-spec =
+    tie.close
+    (tie.spec
+    compute-octant-requires
+    compute-octant-requires-2
+    returns
+    begin-requires
+    begin-requires-2
+    height-requires
+    height-requires-2
+    slope-requires
+    slope-requires-2
+    finished-requires
+    finished-requires-2
+    returns-2)
