@@ -116,7 +116,7 @@ module _ {M : Type 1} {𝓤 : URA M} {H : Heap 𝓤} {A : Atoms 𝓤} (W : Given
   module _ (κ₁ κ₂ κ₃ : Lft) (q₁ q₂ q₃ : Share) (b o : ℕ) (γ : GName) (h : Builder) (x : RefT (List ℕ)) (y : RefT (List Float)) (c : Call)
       (E : Env 𝓤 H) (q : Post 𝓤 H) (f : Name) (n l₀ l₁ l₂ l₃ m₁ m₂ m₃ m₄ m₅ m₆ : ℕ) (lies : Lies E n l₀ l₁ l₂ l₃ m₁ m₂ m₃ m₄ m₅ m₆)
       (x-room : Room u8 (length (x .now))) (y-room : Room f32 (length (y .now)))
-      (more : List Operand) (given : Item 𝓤) (us : List Val) (reads : (Γ : List (Item 𝓤)) (i : ℕ) → nth 𝓤 H A i Γ ≡ given → Opds (Go {0}) W Γ E more us)
+      (more : List Operand) (cell : Item 𝓤) (us : List Val) (reads : (Γ : List (Item 𝓤)) (i : ℕ) → nth 𝓤 H A i Γ ≡ cell → Opds (Go {0}) W Γ E more us)
       (Others : Item 𝓤) (Q : Val → SProp 𝓤) where
     abbrev T : Item 𝓤
     T = Tokens κ₂ κ₃ q₂ q₃
@@ -130,7 +130,7 @@ module _ {M : Type 1} {𝓤 : URA M} {H : Heap 𝓤} {A : Atoms 𝓤} (W : Given
         Borrow κ₁ q₁ b o γ h
         (T ∷ Others ∷ ‵ (fat fullShare record-lent l₁ 0 (vptr b o)) ∷ ‵ (fat fullShare (bytes (named 1)) l₂ 0 (slice x)) ∷ ‵ (fat fullShare (floats (named 2)) l₃ 0 (slice y)) ∷ ‵ (froom (tyInt w8) l₀ 0) ∷
         ‵ (froom B′.mir m₁ 0) ∷ ‵ (froom N′.mir m₂ 0) ∷ ‵ (froom (tyRef erased mut (tyInt w8)) m₃ 0) ∷ ‵ (froom (bytes erased) m₄ 0) ∷ ‵ (froom (tyRef erased mut (tyFloat binary32)) m₅ 0) ∷ ‵ (froom (floats erased) m₆ 0) ∷
-        given ∷ Γ)
+        cell ∷ Γ)
 
     -- and what it ends with
     abbrev pub After : Z → List (Item 𝓤) → List (Item 𝓤)
@@ -138,7 +138,7 @@ module _ {M : Type 1} {𝓤 : URA M} {H : Heap 𝓤} {A : Atoms 𝓤} (W : Given
         Borrow κ₁ q₁ b o γ (z .0 .builder)
         (T ∷ Last x y (z .1 .0) (z .1 .1 .0) ∷ ‵ (froom record-lent l₁ 0) ∷ ‵ (froom (bytes (named 1)) l₂ 0) ∷ ‵ (froom (floats (named 2)) l₃ 0) ∷ ‵ (fat fullShare (tyInt w8) l₀ 0 (vint w8 (z .0 .number))) ∷
         ‵ (froom B′.mir m₁ 0) ∷ ‵ (froom N′.mir m₂ 0) ∷ ‵ (froom (tyRef erased mut (tyInt w8)) m₃ 0) ∷ ‵ (froom (bytes erased) m₄ 0) ∷ ‵ (froom (tyRef erased mut (tyFloat binary32)) m₅ 0) ∷ ‵ (froom (floats erased) m₆ 0) ∷
-        given ∷ Γ)
+        cell ∷ Γ)
 
     pub walks : (asks : Is B.the-row h (mach h ∷ []) → ent 𝓤 (sep 𝓤 (mean 𝓤 H A T) (mean 𝓤 H A Others)) (C f (mach h ∷ slice x ∷ slice y ∷ us) Q))
         (came : (w : Val) (Γ : List (Item 𝓤)) (G : Goal 𝓤 H) → Soaks G → ((z : Z) → Sq W (Last x y (z .1 .0) (z .1 .1 .0) ∷ T ∷ ‵ (N.the-row .own (z .0) (w ∷ [])) ∷ Γ) G) → Sq W (raw (Q w) ∷ Γ) G)
@@ -147,7 +147,7 @@ module _ {M : Type 1} {𝓤 : URA M} {H : Heap 𝓤} {A : Atoms 𝓤} (W : Given
         opens ! tt B.the-row {h = h} b o (λ ws. spelt ! B.the-row (Is B.the-row) (shows 𝓤 H A B.the-row) (LL.vals B.the-type B′.the-laws) (LL.tells B.the-type B′.the-laws) fullShare h ws b o $
         use1 W (‵ (fat fullShare B′.mir b o (mach h))) (W .laws .raw-at fullShare B′.mir b o (mach h)) $
         move ! (1 ∷ []) $ peeks ! B.the-row (Is B.the-row) (shows 𝓤 H A B.the-row) h (mach h ∷ []) (λ g. move ! (1 ∷ 0 ∷ []) $
-        -- [the record 0; own 1; open 2; obs 3; auth 4; tokens 5; others 6; lent 7; verbs 8; points 9; result 10; temporaries 11 to 16; given 17]
+        -- [the record 0; own 1; open 2; obs 3; auth 4; tokens 5; others 6; lent 7; verbs 8; points 9; result 10; temporaries 11 to 16; cell 17]
         assigns ! (of-opd ! (load ! (at ! (lies .lent) (hop ! (look ! 7 refl) (stop !))) (look ! 0 refl))) (at ! (lies .held) (stop !)) (init ! 11 refl (LL.lawful B.the-type B′.the-laws 𝓤 H A W .typed h _ g .0)) $
         assigns ! (addr ! (at ! (lies .verbs) (fld ! refl (hop ! (look-in ! 8 (sub ! 0 refl (whole !))) (stop !))))) (at ! (lies .to-verbs) (stop !)) (init ! 13 refl (tt, tt)) $
         assigns ! (agg ! (and-then ! (load ! (at ! (lies .to-verbs) (stop !)) (look ! 13 refl)) (and-then ! (load ! (at ! (lies .verbs) (fld ! refl (stop !))) (look-in ! 8 (sub ! 1 refl (whole !)))) (no-more !)))) (at ! (lies .verbs-on) (stop !)) (init ! 14 refl (tt, (tt, (record { fits = x-room .0 }, tt)))) $
@@ -157,7 +157,7 @@ module _ {M : Type 1} {𝓤 : URA M} {H : Heap 𝓤} {A : Atoms 𝓤} (W : Given
         move ! (5 ∷ 6 ∷ []) $ join ! $
         calls-from ! fm _ (mach h ∷ slice x ∷ slice y ∷ us) Q (asks g) (and-then ! (load ! (at ! (lies .held) (stop !)) (look ! 10 refl)) (and-then ! (load ! (at ! (lies .verbs-on) (stop !)) (look ! 13 refl)) (and-then ! (load ! (at ! (lies .points-on) (stop !)) (look ! 15 refl)) (reads _ 16 refl)))) (λ w.
         came w _ _ tt (λ z.
-        -- [last 0; tokens 1; own of the answer 2; the record 3; own 4; open 5; obs 6; auth 7; lent 8; verbs 9; points 10; result 11; temporaries 12 to 17; given 18]
+        -- [last 0; tokens 1; own of the answer 2; the record 3; own 4; open 5; obs 6; auth 7; lent 8; verbs 9; points 10; result 11; temporaries 12 to 17; cell 18]
         move ! (2 ∷ []) $ peeks ! N.the-row (Is N.the-row) (shows 𝓤 H A N.the-row) (z .0) (w ∷ []) (λ is. drop ! $
         land ! (at ! (lies .answer) (stop !)) (init ! 12 refl (LL.lawful N.the-type N′.the-laws 𝓤 H A W .typed (z .0) _ is .0)) $ rewrite ! 12 (λ (u : Val). ‵ (fat fullShare N′.mir m₂ 0 u)) (ap only (LL.tells N.the-type N′.the-laws (z .0) _ is)) refl $
         assigns ! (of-opd ! (load ! (at ! (lies .answer) (fld ! refl (stop !))) (look-in ! 12 (sub ! 0 refl (whole !))))) (at ! (lies .lent) (hop ! (look ! 7 refl) (stop !))) (store-in ! 2 (whole !) (LL.lawful B.the-type B′.the-laws 𝓤 H A W .typed (z .0 .builder) _ (LL.owed N.the-type N′.the-laws (z .0) _ is .0) .0)) $
@@ -166,6 +166,6 @@ module _ {M : Type 1} {𝓤 : URA M} {H : Heap 𝓤} {A : Atoms 𝓤} (W : Given
         move ! (2 ∷ []) $ use1 W (‵ (cellAt fullShare (B.the-row .mir) (mach (z .0 .builder) ∷ []) b o)) (W .laws .at-raw fullShare B′.mir b o (mach (z .0 .builder))) $
         move ! (3 ∷ []) $ drop ! $ owned ! B.the-row (Is B.the-row) (LL.makes B.the-type B′.the-plain 𝓤 H A) (z .0 .builder) _ (LL.owed N.the-type N′.the-laws (z .0) _ is .0) $
         move ! (1 ∷ 0 ∷ 4 ∷ 5 ∷ 6 ∷ []) $ closes ! tt B.the-row (z .0 .builder) (mach (z .0 .builder) ∷ []) b o $
-        -- [obs 0; bor 1; lft 2; last 3; tokens 4; lent 5; verbs 6; points 7; result 8; temporaries 9 to 14; given 15]
+        -- [obs 0; bor 1; lft 2; last 3; tokens 4; lent 5; verbs 6; points 7; result 8; temporaries 9 to 14; cell 15]
         move ! (0 ∷ 1 ∷ 2 ∷ 4 ∷ 3 ∷ []) $ forget ! 5 refl $ forget ! 6 refl $ forget ! 7 refl $ forget ! 9 refl $ forget ! 10 refl $ forget ! 11 refl $ forget ! 12 refl $ forget ! 13 refl $ forget ! 14 refl $
         rest z (number-fits (z .0) _ is))))))

@@ -72,7 +72,7 @@ module _ (c : Point → Call) {M : Type 1} (𝓤 : URA M) (H : Heap 𝓤) (A : A
     ensures = λ g r e. fact 𝓤 (answered (r .builder) (r .number) (now (e .1 .0)) (now (e .1 .1 .0)) ≡ step (state (a .0) (now (a .1 .0)) (now (a .1 .1 .0))) (c (a .1 .1 .1 .0)));
   }
 
-  abbrev Above : Clauses 𝓤 above.ended
+  abbrev pub Above : Clauses 𝓤 above.ended
   Above κs a = record {
     ghost = Unit {0};
     requires = λ g. emp 𝓤;
