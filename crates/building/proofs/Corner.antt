@@ -211,7 +211,7 @@ outline-told shape =
     let a = startPoint (shape .«top_right») in
     let h = around a shape in
     let w : outlineEntries shape ≡ plain (Move a) ∷ flatten (h .entries) ++ plain (Line a) ∷ plain Close ∷ []
-        = outline-entries a (flatten (cornersOf shape)) ∙ ap (λ (es : List Entry). plain (Move a) ∷ es ++ plain (Line a) ∷ plain Close ∷ []) (h .along a) in
+    = outline-entries a (flatten (cornersOf shape)) ∙ ap (λ (es : List Entry). plain (Move a) ∷ es ++ plain (Line a) ∷ plain Close ∷ []) (h .along a) in
     record {
       corners = h .entries;
       drawn = h .told;

@@ -39,7 +39,7 @@ pub record Faithful (b : Builder) (vs : List ℕ) (fs : List Float) (cs : List B
   -- each accepted conic
   pub conics : (pre : List BuildingCall) (ctrl to : Point) (w : Float) (post : List BuildingCall) → cs ≡ pre ++ ConicTo ctrl to w ∷ post
       → let k = bookOf entriesOf worded (length vs) (length fs) pre in
-        accepts (length vs) (length fs) k (added entriesOf k (ConicTo ctrl to w)) ≡ true → ConicAdded (built step b vs fs pre) k ctrl to w
+      accepts (length vs) (length fs) k (added entriesOf k (ConicTo ctrl to w)) ≡ true → ConicAdded (built step b vs fs pre) k ctrl to w
   -- each accepted outline: what it adds is a move, four corners, a line to the move's point and a close
   pub outlines : (pre : List BuildingCall) (shape : RoundSuperellipse) (post : List BuildingCall) → cs ≡ pre ++ AddTo shape ∷ post
       → let k = bookOf entriesOf worded (length vs) (length fs) pre in OutlineEntries shape (added entriesOf k (AddTo shape))

@@ -35,9 +35,9 @@ pub data CornerEntries (p : Point) : Bool → List Call → List Entry → Point
       → c3 .from ≡ f → LineOrQuads c3 e3 w3
       → c4 .from ≡ c3 .to → LineOrQuads c4 e4 w4
       → CornerEntries p false
-          (callOf c1 ∷ callOf c2 ∷ CubicTo a b c ∷ CubicTo d e f ∷ callOf c3 ∷ callOf c4 ∷ [])
-          (e1 ++ (e2 ++ (plain (Cubic a b c) ∷ plain (Cubic d e f) ∷ (e3 ++ e4))))
-          (c4 .to)
+      (callOf c1 ∷ callOf c2 ∷ CubicTo a b c ∷ CubicTo d e f ∷ callOf c3 ∷ callOf c4 ∷ [])
+      (e1 ++ (e2 ++ (plain (Cubic a b c) ∷ plain (Cubic d e f) ∷ (e3 ++ e4))))
+      (c4 .to)
 
 -- corner by corner, each from where the one before it ends, square or round by the degree test on its quadrant
 pub data CornersEntries : Point → List Quadrant → List (List Call) → List (List Entry) → Type 0 where

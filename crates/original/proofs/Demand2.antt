@@ -52,7 +52,7 @@ of-grown k b c h =
     let es = added entriesOf k c in
     let ks = elementsOf (k .entries) in
     let g : Behind ks (k .start) (k .pen) (elementsOf es) (draw b c)
-        = subst (λ (t : Bool). Behind ks (k .start) (k .pen) (elementsOf (entriesOf t (k .pen) c)) (draw b c)) (none-elements (k .entries)) (drawn-behind ks c h) in
+    = subst (λ (t : Bool). Behind ks (k .start) (k .pen) (elementsOf (entriesOf t (k .pen) c)) (draw b c)) (none-elements (k .entries)) (drawn-behind ks c h) in
     subst (λ (l : List Element). Mirrors l (startAfter (k .start) (elementsOf es)) (penAfter (k .start) (k .pen) (elementsOf es)) (draw b c)) (sym (elements-append (k .entries) es)) g
 
 accepted : (t : Bool) → _≡_ {A = ℕ} (cond t 0 5) 0 → t ≡ true
@@ -71,7 +71,7 @@ ends vn fn s k b (c ∷ cs) h o f =
     let es = added entriesOf k c in
     let a = accepted (accepts vn fn k es) (sym (each-call seven vn fn s k c h .number) ∙ f .0) in
     let g : Holds vn fn (step s c .state) (grown k es)
-        = subst (λ (t : Bool). Holds vn fn (step s c .state) (cond t (grown k es) k)) a (given-simulates seven vn fn .keeps s k c h) in
+    = subst (λ (t : Bool). Holds vn fn (step s c .state) (cond t (grown k es) k)) a (given-simulates seven vn fn .keeps s k c h) in
     ends vn fn (step s c .state) (grown k es) (draw b c) cs g (of-grown k b c o) (f .1)
 
 of-new : Of emptyBook newBuilder
