@@ -26,7 +26,7 @@ use Rattle.lists.proofs.Every.{holds-after, every-list}
 use Rattle.building.specs.Demand3.{conicIn, ConicAdded, Faithful}
 use Rattle.building.proofs.Six.{conic-entries, opened-word, conic-pen}
 use Rattle.building.proofs.Seven.{seven}
-use Rattle.building.proofs.Corner.{outline-told}
+use Rattle.contour.proofs.Turns.{outline-told}
 
 -- what a conic adds to a book
 adds-lowered : (k : Book) (ctrl to : Point) (w : Float) → added entriesOf k (ConicTo ctrl to w) ≡ opening (isNil (k .entries)) ++ loweredOf (lowerOf (conicIn k ctrl to w))

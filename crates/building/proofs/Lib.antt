@@ -1,5 +1,4 @@
 -- Every list of the seven building calls.
-pub mod Corner
 pub mod Six
 pub mod Seven
 pub mod Demand3

@@ -20,7 +20,7 @@ use Rattle.outline.specs.declared.BuildingCall.the-variants.{ConicTo, AddTo}
 use Rattle.outline.specs.Step.{entriesOf, worded, step}
 use Rattle.lists.specs.Book.{Book, isNil, accepts, added, grown}
 use Rattle.lists.specs.Lists.{EveryList, built, bookOf}
-use Rattle.building.specs.Parts.{OutlineEntries}
+use Rattle.contour.specs.Parts.{OutlineEntries}
 
 -- the conic that a call draws where the book is k
 abbrev pub conicIn : Book → Point → Point → Float → Conic

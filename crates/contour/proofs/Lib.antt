@@ -3,3 +3,4 @@ pub mod Along
 pub mod Conics
 pub mod Passing
 pub mod Counted
+pub mod Turns

@@ -28,7 +28,7 @@ use Rattle.lists.specs.Book.{Book, emptyBook, fitsIn, accepts, grown}
 use Rattle.lists.proofs.Kept.{Holds, given-simulates}
 use Rattle.lists.proofs.Every.{holds-none, each-call}
 use Rattle.building.proofs.Seven.{seven}
-use Rattle.building.proofs.Corner.{outline-told}
+use Rattle.contour.proofs.Turns.{outline-told}
 use Rattle.inspection.specs.Inspection.{allFinite, finiteOutline}
 
 -- ---- floats one by one

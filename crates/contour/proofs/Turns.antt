@@ -1,6 +1,6 @@
--- What a corner adds, what four corners add, and how much.
+-- What a corner adds, what four corners and a whole outline add, and how much.
 use mathlib.Core.Path.{_≡_, refl, sym, ap, subst, _∙_}
-use mathlib.Core.List.{List, [], _∷_, _++_, append-nil, append-assoc, flatten}
+use mathlib.Core.List.{List, [], _∷_, _++_, map, flatten}
 use mathlib.Core.Bool.{Bool, true, false, cond}
 use Prim.Native.Nat.{ℕ, _+_, _*_, _≤_}
 use native.Mathlib.Omega.{arith}
@@ -13,7 +13,7 @@ use Rattle.conic.specs.Conic.{lowerOf}
 use Rattle.conic.specs.Halving.{piecesOf}
 use Rattle.stream.specs.declared.Element.the-variants.{Move, Line, Cubic, Close}
 use Rattle.stream.specs.declared.Need.{Need}
-use Rattle.stream.specs.Stream.{sizesOf, startAfter, penAfter, needOf}
+use Rattle.stream.specs.Stream.{origin, sizesOf, startAfter, penAfter, needOf}
 use Rattle.stream.proofs.Push.{sizes-append}
 use Rattle.lowering.specs.Entries.{Entry, plain, elementsOf, loweredOf, LineOrQuads, one-line, quads}
 use Rattle.lowering.proofs.Entries.{elements-append, quads-length, quads-sizes, line-or-quads}
@@ -23,10 +23,13 @@ use Rattle.calls.specs.Calls.{entriesOf}
 use Rattle.quadrant.specs.declared.Quadrant.{Quadrant}
 use Rattle.shape.specs.declared.RoundSuperellipse.{RoundSuperellipse}
 use Rattle.corners.specs.Corners.{squareCorner, placedConic, placedCubic, forwardsCalls, backwardsCalls, octantCalls, squareCalls, roundCalls, cornerCalls, equalCorners, unequalCorners, cornersOf, startPoint}
-use Rattle.corners.specs.Calls.{callsIn, outlineOf, outlineCalls}
+use Rattle.corners.specs.declared.Corner.{Corner}
+use Rattle.corners.specs.declared.Corner.the-variants.{Square, Round}
+use Rattle.corners.specs.declared.Outline.{Outline}
+use Rattle.corners.specs.Calls.{callsOf, drawingOf, callsIn, outlineOf, outlineCalls}
 use Rattle.contour.specs.Entries.{entriesAlong, Passes, outlineEntries}
 use Rattle.contour.proofs.Passing.{along-one, along-then, passes-line, passes-cubic, passes-conic, passes-join, passes-none, outline-entries}
-use Rattle.building.specs.Parts.{Sized, callOf, CornerEntries, square, round, CornersEntries, none, corner, quadrantsOf, OutlineEntries}
+use Rattle.contour.specs.Parts.{Sized, callOf, CornerEntries, square, round, CornersEntries, none, corner, quadrantsOf, OutlineEntries}
 
 -- ---- sizes
 
@@ -155,9 +158,9 @@ turns p param reverse sign = turns-go p param reverse _ (squareCorner param)
 
 -- ---- the corners
 
-record Around (p : Point) (params : List Quadrant) (css : List (List Call)) (n : ℕ) : Type 0 where
+record Around (p : Point) (ts : List Bool) (css : List (List Call)) (n : ℕ) : Type 0 where
   entries : List (List Entry)
-  told : CornersEntries p params css entries
+  told : CornersEntries p ts css entries
   along : (s : Point) → entriesAlong s p (flatten css) ≡ flatten entries
   sizes : Sized (flatten entries) (2 * n) (258 * n) (2 * n) (518 * n)
 
@@ -165,11 +168,9 @@ around-none : (p : Point) → Around p [] [] 0
 unfolding entriesAlong flatten
 around-none p = record { entries = []; told = none; along = λ s. refl; sizes = sized-none }
 
-around-cons : (p : Point) (param : Quadrant) (reverse : Bool) (sign : Point) {params : List Quadrant} {css : List (List Call)} {n : ℕ}
-    → ((q : Point) → Around q params css n) → Around p (param ∷ params) (cornerCalls param reverse sign ∷ css) (1 + n)
+around-cons : {p : Point} {t : Bool} {ts : List Bool} {cs : List Call} {css : List (List Call)} {n : ℕ} → Turns p t cs → ((q : Point) → Around q ts css n) → Around p (t ∷ ts) (cs ∷ css) (1 + n)
 unfolding flatten
-around-cons p param reverse sign {params} {css} {n} f =
-    let h = turns p param reverse sign in
+around-cons {css = css} {n = n} h f =
     let g = f (h .end) in
     record {
       entries = h .entries ∷ g .entries;
@@ -178,20 +179,19 @@ around-cons p param reverse sign {params} {css} {n} f =
       sizes = sized-within (2 * (1 + n)) (258 * (1 + n)) (2 * (1 + n)) (518 * (1 + n)) (sized-join (sized-corner (h .told)) (g .sizes)) (omega arith) (omega arith) (omega arith) (omega arith);
     }
 
-around-equal : (p : Point) (tr : Quadrant) → Around p (tr ∷ tr ∷ tr ∷ tr ∷ []) (equalCorners tr) 4
-unfolding equalCorners
-around-equal p tr = around-cons p tr false _ (λ q. around-cons q tr true _ (λ r. around-cons r tr false _ (λ s. around-cons s tr true _ around-none)))
+-- four corners, whatever they are
+around-four : {t1 t2 t3 t4 : Bool} {c1 c2 c3 c4 : List Call} → ((p : Point) → Turns p t1 c1) → ((p : Point) → Turns p t2 c2) → ((p : Point) → Turns p t3 c3) → ((p : Point) → Turns p t4 c4)
+    → (p : Point) → Around p (t1 ∷ t2 ∷ t3 ∷ t4 ∷ []) (c1 ∷ c2 ∷ c3 ∷ c4 ∷ []) 4
+around-four f1 f2 f3 f4 p = around-cons (f1 p) (λ q. around-cons (f2 q) (λ r. around-cons (f3 r) (λ s. around-cons (f4 s) around-none)))
 
-around-unequal : (p : Point) (shape : RoundSuperellipse) → Around p (shape .«top_right» ∷ shape .«bottom_right» ∷ shape .«bottom_left» ∷ shape .«top_left» ∷ []) (unequalCorners shape) 4
-unfolding unequalCorners
-around-unequal p shape = around-cons p _ false _ (λ q. around-cons q _ true _ (λ r. around-cons r _ false _ (λ s. around-cons s _ true _ around-none)))
+around-go : (p : Point) (shape : RoundSuperellipse) (same : Bool)
+    → let tr = shape .«top_right» in
+      Around p (map squareCorner (cond same (tr ∷ tr ∷ tr ∷ tr ∷ []) (tr ∷ shape .«bottom_right» ∷ shape .«bottom_left» ∷ shape .«top_left» ∷ []))) (cond same (equalCorners tr) (unequalCorners shape)) 4
+unfolding equalCorners unequalCorners
+around-go p shape true = around-four (λ q. turns q _ false _) (λ q. turns q _ true _) (λ q. turns q _ false _) (λ q. turns q _ true _) p
+around-go p shape false = around-four (λ q. turns q _ false _) (λ q. turns q _ true _) (λ q. turns q _ false _) (λ q. turns q _ true _) p
 
-around-go : (p : Point) (shape : RoundSuperellipse) (t : Bool)
-    → let tr = shape .«top_right» in Around p (cond t (tr ∷ tr ∷ tr ∷ tr ∷ []) (tr ∷ shape .«bottom_right» ∷ shape .«bottom_left» ∷ shape .«top_left» ∷ [])) (cond t (equalCorners tr) (unequalCorners shape)) 4
-around-go p shape true = around-equal p (shape .«top_right»)
-around-go p shape false = around-unequal p shape
-
-around : (p : Point) (shape : RoundSuperellipse) → Around p (quadrantsOf shape) (cornersOf shape) 4
+around : (p : Point) (shape : RoundSuperellipse) → Around p (map squareCorner (quadrantsOf shape)) (cornersOf shape) 4
 unfolding cornersOf
 around p shape = around-go p shape (shape .«all_corners_same»)
 
@@ -205,16 +205,34 @@ sized-move : (a : Point) → Sized (plain (Move a) ∷ []) 1 1 1 1
 unfolding elementsOf sizesOf
 sized-move a = record { least = lit≤ tt; most = lit≤ tt; leastPoints = lit≤ tt; mostPoints = lit≤ tt }
 
+-- a move, corners, a line to the move's point and a close
+module _ (a : Point) {ts : List Bool} {css : List (List Call)} (h : Around a ts css 4) where
+  abbrev calls : List Call
+  calls = call.MoveTo a ∷ flatten css ++ call.LineTo a ∷ call.Close ∷ []
+
+  closed-whole : entriesAlong origin origin calls ≡ plain (Move a) ∷ flatten (h .entries) ++ plain (Line a) ∷ plain Close ∷ []
+  closed-whole = outline-entries a (flatten css) ∙ ap (λ (es : List Entry). plain (Move a) ∷ es ++ plain (Line a) ∷ plain Close ∷ []) (h .along a)
+
+  closed-sizes : Sized (entriesAlong origin origin calls) 11 1035 10 2074
+  closed-sizes = subst (λ (es : List Entry). Sized es 11 1035 10 2074) (sym closed-whole) (sized-join (sized-move a) (sized-join (h .sizes) (sized-ends a)))
+
 pub outline-told : (shape : RoundSuperellipse) → OutlineEntries shape (outlineEntries shape)
 unfolding outlineEntries outlineCalls callsIn outlineOf
 outline-told shape =
     let a = startPoint (shape .«top_right») in
     let h = around a shape in
-    let w : outlineEntries shape ≡ plain (Move a) ∷ flatten (h .entries) ++ plain (Line a) ∷ plain Close ∷ []
-    = outline-entries a (flatten (cornersOf shape)) ∙ ap (λ (es : List Entry). plain (Move a) ∷ es ++ plain (Line a) ∷ plain Close ∷ []) (h .along a) in
-    record {
-      corners = h .entries;
-      drawn = h .told;
-      whole = w;
-      sizes = subst (λ (es : List Entry). Sized es 11 1035 10 2074) (sym w) (sized-join (sized-move a) (sized-join (h .sizes) (sized-ends a)));
-    }
+    record { corners = h .entries; drawn = h .told; whole = closed-whole a h; sizes = closed-sizes a h }
+
+-- ---- whatever is drawn
+
+isSquare : Corner → Bool
+isSquare (Square p q) = true
+isSquare (Round r) = false
+
+turns-drawn : (p : Point) (c : Corner) → Turns p (isSquare c) (callsOf c)
+turns-drawn p (Square a b) = turns-square p a b
+turns-drawn p (Round r) = turns-six p _ _ _ _ _ _ _ _ _ _ _ _ _ _ _ _ _ _
+
+pub drawn-sizes : (o : Outline) → Sized (entriesAlong origin origin (callsIn (drawingOf o))) 11 1035 10 2074
+unfolding callsIn
+drawn-sizes o = closed-sizes (o .start) (around-four (λ q. turns-drawn q (o .corners .first)) (λ q. turns-drawn q (o .corners .second)) (λ q. turns-drawn q (o .corners .third)) (λ q. turns-drawn q (o .corners .fourth)) (o .start))

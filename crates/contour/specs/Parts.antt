@@ -1,6 +1,6 @@
 -- What document 01's book says of an outline: a move, four corners, a line to the move's point, a close. Definitions only.
 use mathlib.Core.Path.{_≡_}
-use mathlib.Core.List.{List, [], _∷_, _++_, flatten}
+use mathlib.Core.List.{List, [], _∷_, _++_, map, flatten}
 use mathlib.Core.Bool.{Bool, true, false, cond}
 use Prim.Native.Nat.{ℕ, _≤_}
 use lib.ListN.{length}
@@ -39,14 +39,13 @@ pub data CornerEntries (p : Point) : Bool → List Call → List Entry → Point
       (e1 ++ (e2 ++ (plain (Cubic a b c) ∷ plain (Cubic d e f) ∷ (e3 ++ e4))))
       (c4 .to)
 
--- corner by corner, each from where the one before it ends, square or round by the degree test on its quadrant
-pub data CornersEntries : Point → List Quadrant → List (List Call) → List (List Entry) → Type 0 where
+-- corner by corner, each from where the one before it ends, and square or round as told
+pub data CornersEntries : Point → List Bool → List (List Call) → List (List Entry) → Type 0 where
   none : {p : Point} → CornersEntries p [] [] []
-  corner : {p q : Point} {quadrant : Quadrant} {quadrants : List Quadrant} {cs : List Call} {css : List (List Call)} {es : List Entry} {ess : List (List Entry)}
-      → CornerEntries p (squareCorner quadrant) cs es q → CornersEntries q quadrants css ess
-      → CornersEntries p (quadrant ∷ quadrants) (cs ∷ css) (es ∷ ess)
+  corner : {p q : Point} {t : Bool} {ts : List Bool} {cs : List Call} {css : List (List Call)} {es : List Entry} {ess : List (List Entry)}
+      → CornerEntries p t cs es q → CornersEntries q ts css ess → CornersEntries p (t ∷ ts) (cs ∷ css) (es ∷ ess)
 
--- the quadrants in the order in which they are drawn
+-- the quadrants in the order in which they are drawn; the degree test makes each corner square or round
 abbrev pub quadrantsOf : RoundSuperellipse → List Quadrant
 quadrantsOf shape =
     let tr = shape .«top_right» in
@@ -54,6 +53,6 @@ quadrantsOf shape =
 
 pub record OutlineEntries (shape : RoundSuperellipse) (es : List Entry) : Type 0 where
   pub corners : List (List Entry)
-  pub drawn : CornersEntries (startPoint (shape .«top_right»)) (quadrantsOf shape) (cornersOf shape) corners
+  pub drawn : CornersEntries (startPoint (shape .«top_right»)) (map squareCorner (quadrantsOf shape)) (cornersOf shape) corners
   pub whole : let start = startPoint (shape .«top_right») in es ≡ plain (Move start) ∷ flatten corners ++ plain (Line start) ∷ plain Close ∷ []
   pub sizes : Sized es 11 1035 10 2074
