@@ -103,3 +103,27 @@ pub fn report(file: &[u8]) -> Vec<String> {
     lines.push("end".to_string());
     lines
 }
+
+#[cfg(test)]
+mod tests {
+    use super::report;
+
+    /// Document 01's example: a square, then a touch that it takes and one that it does not.
+    #[test]
+    fn example() {
+        let floats = [
+            0f32, 0.0, 10.0, 10.0, 0.0, 0.0, 0.0, 0.0, 0.0, 0.0, 0.0, 0.0,
+        ];
+        let mut file = vec![48, 0, 1, 0];
+        file.extend(floats.into_iter().flat_map(f32::to_le_bytes));
+        for x in [0f32, 10.0] {
+            file.extend([8, 0, 2, 0]);
+            file.extend([x, x].into_iter().flat_map(f32::to_le_bytes));
+        }
+        let lines = ["shape 0 11 10", "touch 0", "touch none", "end"];
+        assert_eq!(report(&file), lines);
+        assert_eq!(report(&file[..75]), ["refused 7 at 64"]);
+        assert_eq!(report(&[0; 65_537]), ["refused 7 at 0"]);
+        assert_eq!(report(&[]), ["end"]);
+    }
+}

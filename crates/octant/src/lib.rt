@@ -150,9 +150,11 @@ pub fn circle_center_through(a: Point, b: Point, r: f32) -> Point
         x: -a_to_b.y,
         y: a_to_b.x,
     };
-    let distance_am = geometry::length(a_to_b) / 2.0;
+    // c_to_m is as long: it is a_to_b turned by a right angle.
+    let length = geometry::length(a_to_b);
+    let distance_am = length / 2.0;
     let distance_cm = ieee::sqrt(r * r - distance_am * distance_am);
-    let unit = geometry::normalize(c_to_m);
+    let unit = geometry::scale(c_to_m, 1.0 / length);
     geometry::sub(
         m,
         Point {

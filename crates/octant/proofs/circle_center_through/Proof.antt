@@ -1,3 +1,5 @@
+use Rattle.octant.proofs.Turned.{turned}
+use Rattle.geometry.specs.Point.{normalizeOf}
 use Rattle.octant.specs.Octant.{circleCenterThroughOf}
 use borrow.Author.Needs.{needs}
 use Rattle.octant.proofs.circle_center_through.Statement.{statement}
@@ -18,15 +20,15 @@ length-requires c κs = search needs
 sqrt-requires : tie.Need-sqrt-requires
 sqrt-requires c κs = search needs
 
-normalize-requires : tie.Need-normalize-requires
-normalize-requires c κs = search needs
+scale-requires : tie.Need-scale-requires
+scale-requires c κs = search needs
 
 sub-requires-2 : tie.Need-sub-requires-2
 sub-requires-2 c κs = search needs
 
 returns : tie.Need-returns
-unfolding circleCenterThroughOf
-returns c = rw (← c .before .before .before .before .before .before .before .before .before .sub .ensures, ← c .before .before .before .before .before .before .before .before .add .ensures, ← c .before .before .before .before .before .before .before .shrink .ensures, ← c .before .before .before .before .before .length .ensures, ← c .before .before .before .before .sqrt .ensures, ← c .before .before .before .normalize .ensures, ← c .sub2 .ensures)
+unfolding circleCenterThroughOf normalizeOf
+returns c = rw (← c .before .before .before .before .before .before .before .before .before .sub .ensures, ← c .before .before .before .before .before .before .before .before .add .ensures, ← c .before .before .before .before .before .before .before .shrink .ensures, turned (c .before .before .before .before .before .before .before .before .before .sub .result), ← c .before .before .before .before .before .length .ensures, ← c .before .before .before .before .sqrt .ensures, ← c .before .before .before .scale .ensures, ← c .sub2 .ensures)
 
 pub circle-center-through-spec : {M : Type 1} → statement M
 circle-center-through-spec =
@@ -37,6 +39,6 @@ circle-center-through-spec =
     shrink-requires
     length-requires
     sqrt-requires
-    normalize-requires
+    scale-requires
     sub-requires-2
     returns)
