@@ -225,7 +225,7 @@ outline-told shape =
 
 -- ---- whatever is drawn
 
-isSquare : Corner → Bool
+abbrev isSquare : Corner → Bool
 isSquare (Square p q) = true
 isSquare (Round r) = false
 

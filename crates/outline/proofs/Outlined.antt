@@ -17,6 +17,8 @@ use Rattle.calls.specs.declared.Built.the-variants.{Done, BadRecord, NoRoom}
 use Rattle.calls.specs.Calls.{entriesOf, outcome, outcomeOf, admitOf}
 use Rattle.calls.proofs.Built.{the-type}
 use Rattle.calls.proofs.Admission.{Admitted, admitted-for, refused-is, done-is}
+use Rattle.calls.proofs.Largest.{Covered}
+use Rattle.contour.proofs.Turns.{drawn-sizes}
 use Rattle.shape.specs.declared.RoundSuperellipse.{RoundSuperellipse}
 use Rattle.corners.specs.declared.Outline.{Outline}
 use Rattle.corners.specs.Calls.{Drawing, drawingOf, callsIn, outlineOf, outlineCalls}
@@ -34,6 +36,10 @@ built-wordless (NoRoom b) vs fs = refl
 drawn-anywhere : (s : State) (d : Drawing) → elementsAlong s (callsIn d) ≡ elementsOf (entriesAlong origin origin (callsIn d))
 unfolding callsIn entriesAlong entriesOf elementsOf startAfter penAfter
 drawn-anywhere s d = refl
+
+-- its need is covered by that of the largest outline
+pub drawn-covered : (o : Outline) → Covered (needOf (elementsOf (entriesAlong origin origin (callsIn (drawingOf o))))) (record { verbs = 1035; points = 2074 })
+drawn-covered o = let z = drawn-sizes o in record { verbs = z .most; points = z .mostPoints }
 
 module _ (s : State) (shape : RoundSuperellipse) (o : Outline) (e : drawingOf o ≡ outlineOf shape) where
   abbrev drawn : List Element

@@ -2,10 +2,11 @@
 // not at all.
 ghost use mathlib.Core.Path.{_≡_};
 ghost use mathlib.Core.List.{_∷_, [], flatten};
-ghost use Rattle.stream.specs.Stream.{state};
-ghost use Rattle.calls.specs.Calls.{outcomeOf};
+ghost use Rattle.stream.specs.Stream.{state, origin, needOf};
+ghost use Rattle.lowering.specs.Entries.{elementsOf};
+ghost use Rattle.calls.specs.Calls.{outcomeOf, admitOf};
 ghost use Rattle.corners.specs.Calls.{conicCall, callsForwards, callsBackwards, callsOf, callLists, drawingOf, callsIn};
-ghost use Rattle.contour.specs.Entries.{pushCalls, RoomAlong};
+ghost use Rattle.contour.specs.Entries.{entriesAlong, pushCalls, RoomAlong};
 ghost use Rattle.outline.specs.Step.{step};
 use calls::Built;
 use conic::Conic;
@@ -18,6 +19,12 @@ use corners::Outline;
 use geometry::Point;
 use shape::RoundSuperellipse;
 use stream::Builder;
+use stream::Need;
+
+// The largest outline.
+const MOST_VERBS: usize = 1035;
+
+const MOST_POINTS: usize = 2074;
 
 // A building call as a value: the six of path.rs, and the outline of a shape.
 pub enum BuildingCall {
@@ -111,12 +118,27 @@ fn push_outline(b: Builder, verbs: &mut [u8], points: &mut [f32], o: Outline) ->
     stream::push_close(b3, verbs, points)
 }
 
+// Buffers with room for the largest outline have room for any: only in fuller ones is the need counted.
+fn admit_outline(b: Builder, verbs: usize, floats: usize, o: Outline) -> Built
+    ensures { λ r. ⌜ r ≡ admitOf b verbs floats (needOf (elementsOf (entriesAlong origin origin (callsIn (drawingOf o))))) ⌝ }
+{
+    let largest = Need {
+        verbs: MOST_VERBS,
+        points: MOST_POINTS,
+    };
+    let a = calls::admit(b, verbs, floats, largest);
+    let Built::Done(_) = a else {
+        return calls::admit(b, verbs, floats, contour::outline_need(o));
+    };
+    a
+}
+
 // The outline behind the held elements: a move, four corners, a line to the move's point, a close.
 pub fn add_to(shape: RoundSuperellipse, b: Builder, verbs: &mut [u8], points: &mut [f32]) -> Built
     ensures { λ r. ⌜ outcomeOf r (now (verbs .exit)) (now (points .exit)) ≡ step (state b (now (verbs .entry)) (now (points .entry))) (BuildingCall.AddTo shape) ⌝ }
 {
     let o = corners::draw(shape);
-    let a = calls::admit(b, verbs.len(), points.len(), contour::outline_need(o));
+    let a = admit_outline(b, verbs.len(), points.len(), o);
     let Built::Done(_) = a else {
         return a;
     };
