@@ -65,7 +65,7 @@ macro_rules! shapes {
         pub mod $name {
             use oracle::vec2::Vec2;
             use oracle::$variant::path::Rect;
-            use oracle::$variant::superellipse::{CornerRadii, RoundSuperellipse};
+            use oracle::$variant::superellipse::{access, CornerRadii, RoundSuperellipse};
 
             /// min, max, and the radii top left, top right, bottom left, bottom right.
             #[inline(never)]
@@ -80,6 +80,14 @@ macro_rules! shapes {
                         bottom_right: point(5),
                     },
                 )
+            }
+
+            /// The shape's floats, in the library's order.
+            pub fn floats(shape: &RoundSuperellipse) -> Vec<f32> {
+                let (quadrants, same) = access::shape_floats(shape);
+                let mut floats = quadrants.concat();
+                floats.push(same as u8 as f32);
+                floats
             }
 
             #[inline(never)]
