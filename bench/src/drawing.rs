@@ -9,7 +9,7 @@ use oracle::random::Random;
 use oracle::vec2::Vec2;
 
 use crate::library::{self, Path};
-use crate::others::{native_shape, written_path, written_shape};
+use crate::others::{native_shape, shape_floats, written_path, written_shape};
 use crate::speed::print;
 
 const ROUNDS: usize = 200;
@@ -98,7 +98,7 @@ fn new(kind: &str, make: fn(&mut Random) -> Sizes) {
     let mut random = Random(7);
     let inputs: Vec<Sizes> = (0..SHAPES).map(|_| make(&mut random)).collect();
     for s in &inputs {
-        let theirs = written_shape::floats(&written_shape::new(s));
+        let theirs = shape_floats(&written_shape::new(s));
         assert!(
             bits(&made(s)).eq(bits(&theirs)),
             "library and oracle differ"

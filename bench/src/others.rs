@@ -65,7 +65,7 @@ macro_rules! shapes {
         pub mod $name {
             use oracle::vec2::Vec2;
             use oracle::$variant::path::Rect;
-            use oracle::$variant::superellipse::{access, CornerRadii, RoundSuperellipse};
+            use oracle::$variant::superellipse::{CornerRadii, RoundSuperellipse};
 
             /// min, max, and the radii top left, top right, bottom left, bottom right.
             #[inline(never)]
@@ -82,14 +82,6 @@ macro_rules! shapes {
                 )
             }
 
-            /// The shape's floats, in the library's order.
-            pub fn floats(shape: &RoundSuperellipse) -> Vec<f32> {
-                let (quadrants, same) = access::shape_floats(shape);
-                let mut floats = quadrants.concat();
-                floats.push(same as u8 as f32);
-                floats
-            }
-
             #[inline(never)]
             pub fn contains(shape: &RoundSuperellipse, x: f32, y: f32) -> bool {
                 shape.contains(Vec2::new(x, y))
@@ -100,6 +92,14 @@ macro_rules! shapes {
 
 shapes!(written_shape, written);
 shapes!(native_shape, native);
+
+/// A shape's floats, in the library's order.
+pub fn shape_floats(shape: &oracle::written::superellipse::RoundSuperellipse) -> Vec<f32> {
+    let (quadrants, same) = oracle::written::superellipse::access::shape_floats(shape);
+    let mut floats = quadrants.concat();
+    floats.push(same as u8 as f32);
+    floats
+}
 
 /// The original's builder, whose vectors have their room reserved.
 pub mod written_path {
