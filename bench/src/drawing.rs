@@ -9,7 +9,7 @@ use oracle::random::Random;
 use oracle::vec2::Vec2;
 
 use crate::library::{self, Path};
-use crate::others::{native_shape, written_path, written_shape};
+use crate::others::{native_shape, shape_floats, written_path, written_shape};
 use crate::speed::print;
 
 const ROUNDS: usize = 200;
@@ -79,9 +79,31 @@ const KINDS: [(&str, fn(&mut Random) -> Sizes); 4] = [
     }),
 ];
 
+/// The library's shape.
+fn made(s: &Sizes) -> [f32; library::SHAPE_FLOATS] {
+    let mut floats = [0.0; library::SHAPE_FLOATS];
+    assert_eq!(
+        library::shape(s, &mut floats),
+        0,
+        "a shape within the limits"
+    );
+    floats
+}
+
+fn bits(floats: &[f32]) -> impl Iterator<Item = u32> + '_ {
+    floats.iter().map(|x| x.to_bits())
+}
+
 fn new(kind: &str, make: fn(&mut Random) -> Sizes) {
     let mut random = Random(7);
     let inputs: Vec<Sizes> = (0..SHAPES).map(|_| make(&mut random)).collect();
+    for s in &inputs {
+        let theirs = shape_floats(&written_shape::new(s));
+        assert!(
+            bits(&made(s)).eq(bits(&theirs)),
+            "library and oracle differ"
+        );
+    }
     let mut floats = [0.0; library::SHAPE_FLOATS];
     let times = least(
         SHAPES,
@@ -142,20 +164,18 @@ fn near(r: &mut Random, low: f32, high: f32, from: f64, to: f64) -> f32 {
 fn contains(kind: &str, make: fn(&mut Random) -> Sizes) {
     let mut random = Random(8);
     let inputs: Vec<Sizes> = (0..SHAPES).map(|_| make(&mut random)).collect();
-    let lent: Vec<[f32; library::SHAPE_FLOATS]> = inputs
-        .iter()
-        .map(|s| {
-            let mut floats = [0.0; library::SHAPE_FLOATS];
-            library::shape(s, &mut floats);
-            floats
-        })
-        .collect();
+    let lent: Vec<[f32; library::SHAPE_FLOATS]> = inputs.iter().map(made).collect();
     let written: Vec<_> = inputs.iter().map(written_shape::new).collect();
     let native: Vec<_> = inputs.iter().map(native_shape::new).collect();
     for (place, choose) in PLACES {
         let points: Vec<(f32, f32)> = (0..SHAPES * POINTS)
             .map(|k| choose(&mut random, &inputs[k / POINTS]))
             .collect();
+        for (k, (x, y)) in points.iter().enumerate() {
+            let theirs = written_shape::contains(&written[k / POINTS], *x, *y);
+            let ours = library::contains(&lent[k / POINTS], *x, *y);
+            assert_eq!(ours, theirs as u32, "library and oracle differ");
+        }
         let (mut a, mut b, mut c) = (0u64, 0u64, 0u64);
         let times = least(
             points.len(),
@@ -180,7 +200,7 @@ fn contains(kind: &str, make: fn(&mut Random) -> Sizes) {
                 },
             ],
         );
-        assert_eq!(a, b, "library and oracle differ");
+        black_box((a, b, c));
         let name = format!("{kind}, {place}");
         print("contains", &name, &["library", "oracle", "std"], &times);
     }

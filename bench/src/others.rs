@@ -93,6 +93,14 @@ macro_rules! shapes {
 shapes!(written_shape, written);
 shapes!(native_shape, native);
 
+/// A shape's floats, in the library's order.
+pub fn shape_floats(shape: &oracle::written::superellipse::RoundSuperellipse) -> Vec<f32> {
+    let (quadrants, same) = oracle::written::superellipse::access::shape_floats(shape);
+    let mut floats = quadrants.concat();
+    floats.push(same as u8 as f32);
+    floats
+}
+
 /// The original's builder, whose vectors have their room reserved.
 pub mod written_path {
     use crate::library::Path;
