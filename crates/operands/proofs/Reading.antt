@@ -6,20 +6,20 @@ use native.Mathlib.Numerals.{sub-one}
 use borrow.Author.Tests.{eq-eqb, ne-eqb}
 use lib.ListN.{length}
 use Rattle.text.specs.Words.{firstWord, afterWord}
-use Rattle.operands.specs.declared.Operands.{Operands}
-use Rattle.operands.specs.Operands.{withNext, operandsFrom}
+use Rattle.operands.specs.Operands.{overWords}
 
 -- no word is asked for, none is left, or the first goes in front of the others
-pub none-asked : (n : ℕ) (o : Operands) (s : List ℕ) → n ≡ 0 → operandsFrom n o s ≡ o
-unfolding operandsFrom
-none-asked n o s h = rw (h)
+module _ {S : Type 0} (step : S → List ℕ → S) where
+  pub none-asked : (n : ℕ) (x : S) (s : List ℕ) → n ≡ 0 → overWords step n x s ≡ x
+  unfolding overWords
+  none-asked n x s h = rw (h)
 
-pub none-left : (n : ℕ) (o : Operands) (s : List ℕ) → length (firstWord s) ≡ 0 → operandsFrom n o s ≡ o
-unfolding operandsFrom
-none-left zero o s h = refl
-none-left (suc n) o s h = rw (eq-eqb _ _ h)
+  pub none-left : (n : ℕ) (x : S) (s : List ℕ) → length (firstWord s) ≡ 0 → overWords step n x s ≡ x
+  unfolding overWords
+  none-left zero x s h = refl
+  none-left (suc n) x s h = rw (eq-eqb _ _ h)
 
-pub one-more : (n : ℕ) (o : Operands) (s : List ℕ) → (n ≡ 0 → ⊥) → (length (firstWord s) ≡ 0 → ⊥) → operandsFrom n o s ≡ operandsFrom (n - 1) (withNext o (firstWord s)) (afterWord s)
-unfolding operandsFrom
-one-more zero o s m h = absurd (m refl)
-one-more (suc n) o s m h = rw (ne-eqb _ _ h, sub-one)
+  pub one-more : (n : ℕ) (x : S) (s : List ℕ) → (n ≡ 0 → ⊥) → (length (firstWord s) ≡ 0 → ⊥) → overWords step n x s ≡ overWords step (n - 1) (step x (firstWord s)) (afterWord s)
+  unfolding overWords
+  one-more zero x s m h = absurd (m refl)
+  one-more (suc n) x s m h = rw (ne-eqb _ _ h, sub-one)

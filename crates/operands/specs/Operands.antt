@@ -25,14 +25,14 @@ withSingle o no-single = operands 15 (o .x)
 unfoldable pub withNext : Operands → List ℕ → Operands
 withNext o word = withSingle o (singleOf word)
 
--- with those of the first n words
-unfoldable pub operandsFrom : ℕ → Operands → List ℕ → Operands
-operandsFrom zero o s = o
-operandsFrom (suc n) o s = cond (eqb (length (firstWord s)) 0) o (operandsFrom n (withNext o (firstWord s)) (afterWord s))
+-- a step with each of the first n words of a line
+unfoldable pub overWords : {S : Type 0} → (S → List ℕ → S) → ℕ → S → List ℕ → S
+overWords step zero x s = x
+overWords step (suc n) x s = cond (eqb (length (firstWord s)) 0) x (overWords step n (step x (firstWord s)) (afterWord s))
 
 -- all that a line spells: with its 15th word it has too many
 unfoldable pub operandsOf : List ℕ → Operands
-operandsOf s = operandsFrom 15 (operands 0 (replicate 14 (ofBits binary32 0x00000000))) s
+operandsOf s = overWords withNext 15 (operands 0 (replicate 14 (ofBits binary32 0x00000000))) s
 
 -- the point of operands i and i + 1
 abbrev pub pointAt : List Float → ℕ → Point

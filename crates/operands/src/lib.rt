@@ -1,6 +1,11 @@
 // The floats that the words of a line spell, and the bounds and radii that twelve of them are.
 ghost use mathlib.Core.Path.{_≡_};
-ghost use Rattle.operands.specs.Operands.{withNext, operandsFrom, operandsOf, boundsOf, radiiOf};
+ghost use Rattle.operands.specs.Operands.{withNext, overWords, operandsOf, boundsOf, radiiOf};
+
+mod appending;
+
+pub use appending::push_floats;
+pub use appending::push_verbs;
 use geometry::Point;
 use shape::Bounds;
 use shape::CornerRadii;
@@ -30,7 +35,7 @@ fn with_next(o: Operands, word: &[u8]) -> Operands
 
 // Behind the operands o those of the first n words.
 fn read_from(o: Operands, line: &[u8], n: usize) -> Operands
-    ensures { λ r. ⌜ r ≡ operandsFrom n o (now (line .entry)) ⌝ }
+    ensures { λ r. ⌜ r ≡ overWords withNext n o (now (line .entry)) ⌝ }
 {
     if n == 0 {
         return o;

@@ -1,9 +1,7 @@
 // Runs building calls, reads streams and asks shapes, one item a line of standard input, and writes
 // what the library answers.
 mod answers;
-mod items;
 mod session;
-mod words;
 
 use session::Session;
 

@@ -1,9 +1,7 @@
 // The current list or raw stream, and what each line does to it.
 use crate::answers;
-use crate::items;
-use crate::items::Item;
-use crate::words;
 use geometry::Point;
+use items::Item;
 use outline::BuildingCall;
 use reader::Cursor;
 use reader::Reading;
@@ -241,7 +239,7 @@ fn grow_verbs(s: Session, line: &[u8], verbs: &mut [u8]) -> Session {
     let Kind::Raw = kind else {
         return bad_line(s);
     };
-    let held = words::push_verbs(line, verbs, s.verbs);
+    let held = operands::push_verbs(line, verbs, s.verbs);
     if held > verbs.len() {
         return bad_line(s);
     }
@@ -255,7 +253,7 @@ fn grow_floats(s: Session, line: &[u8], floats: &mut [f32]) -> Session {
     let Kind::Raw = kind else {
         return bad_line(s);
     };
-    let held = words::push_floats(line, floats, s.floats);
+    let held = operands::push_floats(line, floats, s.floats);
     if held > floats.len() {
         return bad_line(s);
     }

@@ -6,7 +6,7 @@ use borrow.Author.Needs.{needs}
 use lib.ListN.{length}
 use borrow.Fn.Kinds.{In}
 use borrow.Fn.PlainCycle.{Measures, is, falls, and}
-use Rattle.operands.specs.Operands.{withNext, operandsFrom}
+use Rattle.operands.specs.Operands.{withNext, overWords}
 use Rattle.operands.proofs.Reading.{none-asked, none-left, one-more}
 use Rattle.operands.proofs.read_from.Reads as reads
 use Rattle.operands.proofs.read_from.Kinds as kinds
@@ -28,13 +28,13 @@ claims t = (first-word-reads.Asked, first-word-reads.Learnt, with-next-reads.Ask
 
 module _ (t : ℕ) where
   returns : lts.Need-returns (claims t) (at t) reads.Post
-  returns c = sym (none-asked _ _ _ (c .if1 .taken))
+  returns c = sym (none-asked withNext _ _ _ (c .if1 .taken))
 
   first-word-requires : lts.Need-first-word-requires (claims t) (at t) reads.Post
   first-word-requires c κs = search needs
 
   returns-2 : lts.Need-returns-2 (claims t) (at t) reads.Post
-  returns-2 c = sym (none-left _ _ _ (ap length (sym (c .before .first-word .ensures)) ∙ c .if2 .taken))
+  returns-2 c = sym (none-left withNext _ _ _ (ap length (sym (c .before .first-word .ensures)) ∙ c .if2 .taken))
 
   with-next-requires : lts.Need-with-next-requires (claims t) (at t) reads.Post
   with-next-requires c κs = search needs
@@ -53,8 +53,8 @@ module _ (t : ℕ) where
       let a = c .before .before .before .before .before .before .before .args in
       let word = c .before .before .before .before .first-word .ensures in
       let next = c .before .before .with-next .ensures ∙ ap (withNext (a .o)) word in
-      c .read-from .ensures ∙ ap₂ (operandsFrom (a .n - 1)) next (c .before .after-word .ensures)
-      ∙ sym (one-more (a .n) (a .o) _ (c .before .before .before .before .before .if1 .left) (λ e. c .before .before .before .if2 .left (ap length word ∙ e)))
+      c .read-from .ensures ∙ ap₂ (overWords withNext (a .n - 1)) next (c .before .after-word .ensures)
+      ∙ sym (one-more withNext (a .n) (a .o) _ (c .before .before .before .before .before .if1 .left) (λ e. c .before .before .before .if2 .left (ap length word ∙ e)))
 
 pub +read-from-spec : {M : Type 1} → statement M
 +read-from-spec =
