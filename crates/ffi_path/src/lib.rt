@@ -22,13 +22,13 @@ const PLACES_LENGTH: usize = 4;
 const WRONG_LENGTH: u32 = 100;
 
 // Whether slices of these lengths hold a record.
-fn lengths_fit(counts: usize, places: usize) -> bool
+pub fn lengths_fit(counts: usize, places: usize) -> bool
     ensures { λ r. ⌜ r ≡ fitting counts places ⌝ }
 {
     counts == COUNTS_LENGTH && places == PLACES_LENGTH
 }
 
-fn load(counts: &[u64], places: &[f32]) -> Builder
+pub fn load(counts: &[u64], places: &[f32]) -> Builder
     requires { ⌜ (length (now counts) ≡ 3) × (length (now places) ≡ 4) ⌝ }
     ensures { λ r. ⌜ r ≡ builderAt (now (counts .entry)) (now (places .entry)) ⌝ }
 {
@@ -75,7 +75,7 @@ fn settle(counts: &mut [u64], places: &mut [f32], a: ConicBuilt) -> u32
 }
 
 // The same of an answer with no joint word.
-fn settle_plain(counts: &mut [u64], places: &mut [f32], a: Built) -> u32
+pub fn settle_plain(counts: &mut [u64], places: &mut [f32], a: Built) -> u32
     requires { ⌜ (length (now counts) ≡ 3) × (length (now places) ≡ 4) ⌝ }
     ensures { λ r. ⌜ ((vs : List ℕ) (fs : List Float) → left r (now (counts .exit)) (now (places .exit)) vs fs ≡ leftBy (outcomeOf a vs fs) (now (counts .entry)) (now (places .entry))) ⌝ }
 {

@@ -8,7 +8,7 @@ ghost use Rattle.geometry.specs.Point.{one};
 ghost use Rattle.octant.specs.Binary32.{zero};
 ghost use Rattle.octant.specs.Octant.{point};
 ghost use Rattle.stream.specs.Stream.{put};
-ghost use Rattle.ffi_shape.specs.Layout.{pointFloats, octantFloats, quadrantFloats, shapeFloats, pointAt, octantAt, quadrantAt, boundsAt, radiiAt};
+ghost use Rattle.ffi_shape.specs.Layout.{pointFloats, octantFloats, quadrantFloats, shapeFloats, pointAt, octantAt, quadrantAt, shapeAt, boundsAt, radiiAt};
 ghost use Rattle.ffi_shape.specs.Making.{left, makeOf, cornersHold, holdsOf};
 use geometry::Point;
 use octant::Octant;
@@ -25,7 +25,7 @@ const SHAPE_LENGTH: usize = 89;
 
 const WRONG_LENGTH: u32 = 100;
 
-fn store_point(floats: &mut [f32], at: usize, p: Point)
+pub fn store_point(floats: &mut [f32], at: usize, p: Point)
     requires { ⌜ at + 2 ≤ length (now floats) ⌝ }
     ensures { λ _. ⌜ now (floats .exit) ≡ put (now (floats .entry)) at (pointFloats p) ⌝ }
 {
@@ -114,7 +114,20 @@ fn quadrant_at(floats: &[f32], at: usize) -> Quadrant
     }
 }
 
-fn bounds_at(sizes: &[f32]) -> Bounds
+pub fn shape_at(shape: &[f32]) -> RoundSuperellipse
+    requires { ⌜ length (now shape) ≡ 89 ⌝ }
+    ensures { λ r. ⌜ r ≡ shapeAt (now (shape .entry)) ⌝ }
+{
+    RoundSuperellipse {
+        top_right: quadrant_at(shape, 0),
+        bottom_right: quadrant_at(shape, 22),
+        bottom_left: quadrant_at(shape, 44),
+        top_left: quadrant_at(shape, 66),
+        all_corners_same: shape[88] != 0.0,
+    }
+}
+
+pub fn bounds_at(sizes: &[f32]) -> Bounds
     requires { ⌜ length (now sizes) ≡ 12 ⌝ }
     ensures { λ r. ⌜ r ≡ boundsAt (now (sizes .entry)) ⌝ }
 {

@@ -1,0 +1,2 @@
+-- Laws of outlines in lent numbers.
+pub mod Answers
