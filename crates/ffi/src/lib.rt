@@ -52,3 +52,13 @@ pub extern "C" fn shackletongue_atan2(y: f32, x: f32) -> f32
 {
     trigonometry::atan2(y, x)
 }
+
+// The version of the exported functions, of all crates together.
+const VERSION: u32 = 1;
+
+#[no_mangle]
+pub extern "C" fn shackletongue_version() -> u32
+    ensures { λ r. ⌜ r ≡ 1 ⌝ }
+{
+    VERSION
+}

@@ -1,0 +1,2 @@
+-- Laws of reading into lent numbers.
+pub mod Answers
