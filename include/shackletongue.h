@@ -1,6 +1,6 @@
 /*
  * shackletongue.h: rounded superellipses, their outlines and their touch areas, for C and C++ on x86-64.
- * Link with libshackletongue.a, which `bindings/build` makes; it needs nothing but memcpy, memmove, memset and memcmp.
+ * Link with libshackletongue.a, which `bindings/build` makes; it needs nothing but the C library's memory functions.
  *
  * Each function does what its definition says for every argument: the proof stands beside its source, in the
  * crates ffi, ffi_shape, ffi_path, ffi_outline, ffi_reader and ffi_panel.

@@ -1,5 +1,5 @@
-//! Links libshackletongue.a: from the folder that SHACKLETONGUE_LIB names, else from the repository's
-//! target/staticlib, where `bindings/build` puts it.
+//! Links libshackletongue.a: from the folder that SHACKLETONGUE_LIB names, else from the
+//! repository's target/staticlib, where `bindings/build` puts it.
 
 use std::env;
 use std::path::PathBuf;

@@ -12,15 +12,16 @@ pub enum Error {
     NegativeRadius,
     /// 4: the maximum of the bounds is below their minimum, in x or in y.
     Inverted,
-    /// 5: the call needs more verbs or points than are free. A builder that grows answers it only where there
-    /// is no more memory.
+    /// 5: the call needs more verbs or points than are free. A builder that grows answers it only
+    /// where there is no more memory.
     NoRoom,
     /// 6: a verb over 4, or fewer points than the verb takes.
     Malformed {
         /// The index of the verb.
         verb: usize,
     },
-    /// 7: a panel file is cut short, is over 65,536 bytes, or has a record of unknown kind or wrong length.
+    /// 7: a panel file is cut short, is over 65,536 bytes, or has a record of unknown kind or wrong
+    /// length.
     BrokenFile {
         /// The offset of the first such record; 0 for a file that is too long.
         offset: usize,

@@ -1,5 +1,5 @@
-//! The float functions that everything rests on. They take the place of the platform's, whose last bits
-//! differ: the same answer on every machine.
+//! The float functions that everything rests on. They take the place of the platform's, whose last
+//! bits differ: the same answer on every machine.
 //!
 //! ```
 //! use shackletongue::float;

@@ -82,7 +82,8 @@ impl<'a> Panel<'a> {
         })
     }
 
-    /// The index of the first button that contains the point; one whose shape is refused contains nothing.
+    /// The index of the first button that contains the point; one whose shape is refused contains
+    /// nothing.
     pub fn touch(&self, point: impl Into<Point>) -> Option<usize> {
         let point = point.into();
         let mut place = [0];
@@ -91,7 +92,8 @@ impl<'a> Panel<'a> {
         (number == 0).then_some(index as usize)
     }
 
-    /// [`touch`](Panel::touch) for each of the file's touches, in file order; each shape is made once.
+    /// [`touch`](Panel::touch) for each of the file's touches, in file order; each shape is made
+    /// once.
     pub fn touch_all(&self) -> Vec<Option<usize>> {
         let (mut results, mut place) = ([raw::NOWHERE; raw::RESULTS], [0]);
         let number = raw::touch_all(self.file, &mut results, &mut place);

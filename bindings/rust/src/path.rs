@@ -55,7 +55,8 @@ impl PathRecord {
     }
 }
 
-/// A part of a path. Written out it is SVG path data, each float with as many digits as tell it from all others.
+/// A part of a path. Written out it is SVG path data, each float with as many digits as tell it
+/// from all others.
 #[derive(Clone, Copy, Debug, PartialEq)]
 pub enum Segment {
     /// A contour starts here.
@@ -94,8 +95,9 @@ pub struct Path<'a> {
 }
 
 impl<'a> Path<'a> {
-    /// The path of this record in these buffers: a byte per verb (0 move, 1 line, 2 quad, 3 cubic, 4 close),
-    /// two floats per point. Nothing is tested yet; reading answers what is wrong with it.
+    /// The path of this record in these buffers: a byte per verb (0 move, 1 line, 2 quad, 3 cubic,
+    /// 4 close), two floats per point. Nothing is tested yet; reading answers what is wrong with
+    /// it.
     ///
     /// ```
     /// use shackletongue::{Error, Path, PathRecord};
@@ -126,7 +128,8 @@ impl<'a> Path<'a> {
         self.verbs.get(..self.record().verbs).unwrap_or_default()
     }
 
-    /// The floats of the points that are held, x and y in turn; none where the record counts more than there are.
+    /// The floats of the points that are held, x and y in turn; none where the record counts more
+    /// than there are.
     pub fn points(&self) -> &'a [f32] {
         let floats = self.record().points.saturating_mul(2);
         self.points.get(..floats).unwrap_or_default()
@@ -141,8 +144,8 @@ impl<'a> Path<'a> {
         }
     }
 
-    /// The least box round the points of all segments, controls included; points that are not finite are
-    /// passed over, and where none is left there is no box.
+    /// The least box round the points of all segments, controls included; points that are not
+    /// finite are passed over, and where none is left there is no box.
     ///
     /// # Errors
     ///
@@ -244,8 +247,8 @@ enum Buffers<'a> {
     },
 }
 
-/// Builds a path by seven calls: in memory of its own, which grows or not, or in memory that is lent.
-/// A call that is refused has changed nothing.
+/// Builds a path by seven calls: in memory of its own, which grows or not, or in memory that is
+/// lent. A call that is refused has changed nothing.
 ///
 /// ```
 /// use shackletongue::{CornerRadii, Error, PathBuilder, Rect, RoundSuperellipse, Segment};
@@ -332,8 +335,8 @@ impl<'a> PathBuilder<'a> {
         PathBuilder::resume(PathRecord::EMPTY, verbs, points)
     }
 
-    /// A path that was begun before. The record may be anything; one that does not fit the memory makes every
-    /// call answer [`Error::BadRecord`].
+    /// A path that was begun before. The record may be anything; one that does not fit the memory
+    /// makes every call answer [`Error::BadRecord`].
     pub const fn resume(
         record: PathRecord,
         verbs: &'a mut [u8],
@@ -376,9 +379,9 @@ impl<'a> PathBuilder<'a> {
         self.build(|_| PLAIN, |lent| lent.quad_to(c.x, c.y, to.x, to.y))
     }
 
-    /// A conic section, lowered to 1 to 64 quads; a line where the weight is not finite or at most 0, or a
-    /// point is not finite. The answer is the joint word: the conic is 0 to 64, and bit k is set where a quad
-    /// starts at k; it is 0 for a line.
+    /// A conic section, lowered to 1 to 64 quads; a line where the weight is not finite or at most
+    /// 0, or a point is not finite. The answer is the joint word: the conic is 0 to 64, and bit k
+    /// is set where a quad starts at k; it is 0 for a line.
     ///
     /// ```
     /// # use shackletongue::{Error, PathBuilder};
@@ -528,7 +531,8 @@ impl<'a> PathBuilder<'a> {
         }
     }
 
-    /// Makes room for this much more, and at least twice what there was; answers whether this memory grows.
+    /// Makes room for this much more, and at least twice what there was; answers whether this
+    /// memory grows.
     fn grow(&mut self, need: Need) -> Result<bool, Error> {
         let held = self.record();
         match &mut self.buffers {

@@ -1,10 +1,12 @@
-//! The functions of include/shackletongue.h, each behind a safe one. All of the crate's unsafe code is here.
+//! The functions of include/shackletongue.h, each behind a safe one. All of the crate's unsafe code
+//! is here.
 //!
-//! The header asks of a slice that its pointer is aligned and not null, that its elements lie in one object
-//! and have been given a value, and that one which may change overlaps no other slice of the call. A Rust
-//! reference to a slice or an array is all of this, `&mut` being exclusive, and the borrow lasts as long as
-//! the call; the library keeps nothing. Any numbers will do. So a call is sound as soon as each pointer is
-//! passed with its own length; where the header fixes a length the type has it, and 100 is not returned.
+//! The header asks of a slice that its pointer is aligned and not null, that its elements lie in
+//! one object and have been given a value, and that one which may change overlaps no other slice of
+//! the call. A Rust reference to a slice or an array is all of this, `&mut` being exclusive, and
+//! the borrow lasts as long as the call; the library keeps nothing. Any numbers will do. So a call
+//! is sound as soon as each pointer is passed with its own length; where the header fixes a length
+//! the type has it, and 100 is not returned.
 
 /// The most touches that a panel file holds.
 pub const RESULTS: usize = 5461;
@@ -18,7 +20,8 @@ pub type Counts = [u64; 3];
 pub type Places = [f32; 4];
 pub type Need = [u64; 2];
 
-// Functions of numbers alone, and of two places that are different because both are `&mut`: nothing to break.
+// Functions of numbers alone, and of two places that are different because both are `&mut`: nothing
+// to break.
 unsafe extern "C" {
     #[link_name = "shackletongue_version"]
     pub safe fn version() -> u32;
@@ -158,7 +161,8 @@ pub struct Held<'a> {
     pub points: &'a [f32],
 }
 
-/// Declares the building calls that take floats, which have the record and the two buffers in common.
+/// Declares the building calls that take floats, which have the record and the two buffers in
+/// common.
 macro_rules! building {
     ($($name:ident = $function:ident($($x:ident),*);)*) => {
         unsafe extern "C" {
@@ -177,7 +181,8 @@ macro_rules! building {
 
         impl Lent<'_> {
             $(pub fn $name(&mut self, $($x: f32),*) -> u32 {
-                // SAFETY: arrays and slices with their lengths; `self` holds each by a `&mut` of its own.
+                // SAFETY: arrays and slices with their lengths; `self` holds each by a `&mut` of
+                // its own.
                 unsafe {
                     $function(
                         self.counts,
@@ -207,7 +212,8 @@ building! {
 
 impl Lent<'_> {
     pub fn add(&mut self, shape: &Shape) -> u32 {
-        // SAFETY: as the other building calls; `shape` is borrowed beside `&mut self`, so it lies elsewhere.
+        // SAFETY: as the other building calls; `shape` is borrowed beside `&mut self`, so it lies
+        // elsewhere.
         unsafe {
             shackletongue_add_to(
                 shape,

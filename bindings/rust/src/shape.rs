@@ -54,7 +54,8 @@ impl RoundSuperellipse {
     ///
     /// # Errors
     ///
-    /// [`Error::BeyondLimit`], [`Error::NegativeRadius`] or [`Error::Inverted`], the first that applies.
+    /// [`Error::BeyondLimit`], [`Error::NegativeRadius`] or [`Error::Inverted`], the first that
+    /// applies.
     pub fn new(bounds: Rect, radii: CornerRadii) -> Result<RoundSuperellipse, Error> {
         let sizes = sizes_of(bounds, radii);
         let mut shape = [0.0; 89];
@@ -78,14 +79,15 @@ impl RoundSuperellipse {
         raw::contains(&self.shape, point.x, point.y) == 1
     }
 
-    /// Whether outline and touch area keep together: no corner looks the wrong way, and every point of the
-    /// outline is finite. Ask before you cut brass: some shapes with a zero radius beside a nonzero one are
-    /// drawn right but touched wrong.
+    /// Whether outline and touch area keep together: no corner looks the wrong way, and every point
+    /// of the outline is finite. Ask before you cut brass: some shapes with a zero radius beside a
+    /// nonzero one are drawn right but touched wrong.
     pub fn is_consistent(&self) -> bool {
         raw::is_consistent(&self.sizes, &self.shape) == 1
     }
 
-    /// How many verbs and points [`PathBuilder::add`](crate::PathBuilder::add) adds: at most 1,035 and 2,074.
+    /// How many verbs and points [`PathBuilder::add`](crate::PathBuilder::add) adds: at most 1,035
+    /// and 2,074.
     pub fn outline_need(&self) -> Need {
         let mut need = [0; 2];
         raw::outline_need(&self.shape, &mut need);

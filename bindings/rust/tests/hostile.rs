@@ -57,14 +57,22 @@ impl Random {
         Point::new(self.float(), self.float())
     }
 
+    /// A button of plain floats, of which some are replaced by any.
     fn button(&mut self) -> Button {
+        let mut f: [f32; 12] = std::array::from_fn(|_| self.below(2000) as f32 / 100.0);
+        f[2] += f[0];
+        f[3] += f[1];
+        for _ in 0..self.below(3) {
+            f[self.below(12)] = self.float();
+        }
+        let point = |i: usize| Point::new(f[i], f[i + 1]);
         Button {
-            bounds: Rect::new(self.point(), self.point()),
+            bounds: Rect::new(point(0), point(2)),
             radii: CornerRadii {
-                top_left: self.point(),
-                top_right: self.point(),
-                bottom_left: self.point(),
-                bottom_right: self.point(),
+                top_left: point(4),
+                top_right: point(6),
+                bottom_left: point(8),
+                bottom_right: point(10),
             },
         }
     }
@@ -101,7 +109,7 @@ fn shapes_are_refused_by_number() {
 fn any_shape_is_asked_and_drawn() {
     let mut random = Random(0x5bac_c1e7);
     let mut made = 0;
-    for _ in 0..20_000 {
+    for _ in 0..5_000 {
         let button = random.button();
         let Ok(shape) = button.shape() else {
             continue;
@@ -124,7 +132,7 @@ fn any_shape_is_asked_and_drawn() {
         let finite = path.path().points().iter().all(|x| x.is_finite());
         assert!(finite || !shape.is_consistent());
     }
-    assert!(made > 100, "{made}");
+    assert!(made > 2_000, "{made}");
 }
 
 #[test]

@@ -1,5 +1,5 @@
-//! Draws a panel file as an SVG: outlines filled, touches marked by the button that they hit, refused
-//! shapes and those whose outline and touch area part company told.
+//! Draws a panel file as an SVG: outlines filled, touches marked by the button that they hit,
+//! refused shapes and those whose outline and touch area part company told.
 //!
 //!   preview FILE > PICTURE
 //!
@@ -21,8 +21,12 @@ const MARGIN: f64 = 24.0;
 /// A letter of the legend is hardly wider, so this much is kept for each.
 const LETTER: f64 = 7.2;
 
-/// The width that a touch's label may have; nearer to the right edge it stands to the left of its mark.
+/// The width that a touch's label may have; nearer to the right edge it stands to the left of its
+/// mark.
 const LABEL: f64 = 70.0;
+
+/// More touches than this are small and have no labels.
+const CROWD: usize = 200;
 
 /// The height of a line of the legend, and how many lines of one kind it has at most.
 const LINE: f64 = 19.0;
@@ -225,6 +229,7 @@ fn outlines(svg: &mut String, scene: &Scene, page: &Page) -> std::fmt::Result {
 
 /// A touch is a disc in the colour of its button, or a ring.
 fn touches(svg: &mut String, scene: &Scene, page: &Page) -> std::fmt::Result {
+    let crowded = scene.touches.len() > CROWD;
     for (number, (p, target)) in scene.touches.iter().enumerate() {
         if !on_page(p) {
             continue;
@@ -234,9 +239,13 @@ fn touches(svg: &mut String, scene: &Scene, page: &Page) -> std::fmt::Result {
         let fill = if target.is_some() { &ink } else { "#ffffff" };
         writeln!(
             svg,
-            r#"<circle cx="{x:.1}" cy="{y:.1}" r="5" fill="{fill}" stroke="{}" stroke-width="1.5"/>"#,
+            r#"<circle cx="{x:.1}" cy="{y:.1}" r="{}" fill="{fill}" stroke="{}" stroke-width="1.5"/>"#,
+            if crowded { 3 } else { 5 },
             if target.is_some() { "#ffffff" } else { &ink }
         )?;
+        if crowded {
+            continue;
+        }
         let (x, anchor) = if x + LABEL < page.width {
             (x + 9.0, "start")
         } else {
