@@ -1,3 +1,4 @@
+use std::fmt;
 use std::iter::FusedIterator;
 
 use crate::{raw, Button, Error, Point};
@@ -34,7 +35,7 @@ pub enum Record {
 /// assert_eq!(Panel::new(&file).unwrap_err(), Error::BrokenFile { offset: 52 });
 /// # Ok::<(), Error>(())
 /// ```
-#[derive(Clone, Copy, Debug)]
+#[derive(Clone, Copy)]
 pub struct Panel<'a> {
     file: &'a [u8],
 }
@@ -61,7 +62,7 @@ impl<'a> Panel<'a> {
     /// The records, in file order.
     pub const fn records(&self) -> Records<'a> {
         Records {
-            file: self.file,
+            panel: *self,
             offset: 0,
         }
     }
@@ -107,6 +108,15 @@ impl<'a> Panel<'a> {
     }
 }
 
+impl fmt::Debug for Panel<'_> {
+    fn fmt(&self, f: &mut fmt::Formatter<'_>) -> fmt::Result {
+        f.debug_struct("Panel")
+            .field("buttons", &self.buttons().count())
+            .field("touches", &self.touches().count())
+            .finish_non_exhaustive()
+    }
+}
+
 impl<'a> TryFrom<&'a [u8]> for Panel<'a> {
     type Error = Error;
 
@@ -127,7 +137,7 @@ impl<'a> IntoIterator for Panel<'a> {
 /// The records of a panel, in file order.
 #[derive(Clone, Debug)]
 pub struct Records<'a> {
-    file: &'a [u8],
+    panel: Panel<'a>,
     offset: u64,
 }
 
@@ -136,7 +146,7 @@ impl Iterator for Records<'_> {
 
     fn next(&mut self) -> Option<Record> {
         // The file was found good when the panel was made, so an error does not come.
-        let (record, next) = record_at(self.file, self.offset).ok()??;
+        let (record, next) = record_at(self.panel.file, self.offset).ok()??;
         self.offset = next;
         Some(record)
     }

@@ -12,8 +12,8 @@ pub struct Need {
     pub points: usize,
 }
 
-impl From<raw::Need> for Need {
-    fn from([verbs, points]: raw::Need) -> Need {
+impl Need {
+    pub(crate) const fn from_raw([verbs, points]: raw::Need) -> Need {
         Need {
             verbs: verbs as usize,
             points: points as usize,
@@ -86,7 +86,7 @@ impl fmt::Display for Segment {
 }
 
 /// A path to be read: a record over buffers that may hold anything.
-#[derive(Clone, Copy, Debug)]
+#[derive(Clone, Copy)]
 pub struct Path<'a> {
     counts: raw::Counts,
     places: raw::Places,
@@ -170,6 +170,14 @@ impl<'a> Path<'a> {
             verbs: self.verbs,
             points: self.points,
         }
+    }
+}
+
+impl fmt::Debug for Path<'_> {
+    fn fmt(&self, f: &mut fmt::Formatter<'_>) -> fmt::Result {
+        f.debug_struct("Path")
+            .field("record", &self.record())
+            .finish_non_exhaustive()
     }
 }
 
@@ -450,7 +458,7 @@ impl<'a> PathBuilder<'a> {
         let mut need = [0; 2];
         let conic = [c.x, c.y, to.x, to.y, weight];
         raw::conic_need(&self.counts, &self.places, conic, &mut need);
-        Need::from(need)
+        Need::from_raw(need)
     }
 
     /// Empties the path; the memory is kept.

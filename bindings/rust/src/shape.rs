@@ -91,7 +91,7 @@ impl RoundSuperellipse {
     pub fn outline_need(&self) -> Need {
         let mut need = [0; 2];
         raw::outline_need(&self.shape, &mut need);
-        Need::from(need)
+        Need::from_raw(need)
     }
 
     /// The solved shape as the library keeps it; include/shackletongue.h has the layout.

@@ -365,3 +365,21 @@ fn errors_have_their_numbers() {
     }
     assert_eq!(shackletongue::version(), 1);
 }
+
+#[test]
+fn every_type_may_change_threads_and_is_shown() {
+    fn shown<T: Send + Sync + std::fmt::Debug>(value: T) {
+        assert!(format!("{value:?}").len() < 1_000);
+    }
+    let file = touch(1.0, 2.0).repeat(5461);
+    let panel = Panel::new(&file).unwrap();
+    shown(panel);
+    shown(panel.records());
+    shown(uniform(10.0, 2.0).unwrap());
+    let mut path = PathBuilder::new();
+    path.add(&uniform(10.0, 2.0).unwrap()).unwrap();
+    shown(path.path());
+    shown(path.segments());
+    shown(path);
+    shown(Error::NoRoom);
+}
