@@ -186,7 +186,7 @@ around-four f1 f2 f3 f4 p = around-cons (f1 p) (λ q. around-cons (f2 q) (λ r. 
 
 around-go : (p : Point) (shape : RoundSuperellipse) (same : Bool)
     → let tr = shape .«top_right» in
-      Around p (map squareCorner (cond same (tr ∷ tr ∷ tr ∷ tr ∷ []) (tr ∷ shape .«bottom_right» ∷ shape .«bottom_left» ∷ shape .«top_left» ∷ []))) (cond same (equalCorners tr) (unequalCorners shape)) 4
+    Around p (map squareCorner (cond same (tr ∷ tr ∷ tr ∷ tr ∷ []) (tr ∷ shape .«bottom_right» ∷ shape .«bottom_left» ∷ shape .«top_left» ∷ []))) (cond same (equalCorners tr) (unequalCorners shape)) 4
 unfolding equalCorners unequalCorners
 around-go p shape true = around-four (λ q. turns q _ false _) (λ q. turns q _ true _) (λ q. turns q _ false _) (λ q. turns q _ true _) p
 around-go p shape false = around-four (λ q. turns q _ false _) (λ q. turns q _ true _) (λ q. turns q _ false _) (λ q. turns q _ true _) p
