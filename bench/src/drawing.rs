@@ -206,6 +206,78 @@ fn contains(kind: &str, make: fn(&mut Random) -> Sizes) {
     }
 }
 
+/// The usual button, 100 by 60 with radii of 20, at the origin.
+const BUTTON: Sizes = [
+    0.0, 0.0, 100.0, 60.0, 20.0, 20.0, 20.0, 20.0, 20.0, 20.0, 20.0, 20.0,
+];
+
+/// ns per outline. `counted` is the library in buffers with room for the outline and not for the largest one,
+/// so that the need is counted first.
+fn outline(kind: &str, inputs: &[Sizes]) {
+    let lent: Vec<[f32; library::SHAPE_FLOATS]> = inputs.iter().map(made).collect();
+    let written: Vec<_> = inputs.iter().map(written_shape::new).collect();
+    let native: Vec<_> = inputs.iter().map(native_shape::new).collect();
+    let mut path = Path::with_room(1035, 2074);
+    let mut tight = Path::with_room(1034, 2073);
+    let mut builder = written_shape::with_room(1035, 2074);
+    let mut other = native_shape::with_room(1035, 2074);
+    for (ours, theirs) in lent.iter().zip(&written) {
+        path.clear();
+        assert_eq!(path.add_to(ours), 0, "room for the largest outline");
+        written_shape::outline(theirs, &mut builder);
+        assert!(
+            written_path::same(&builder, &path),
+            "library and oracle differ"
+        );
+    }
+    let times = least(
+        inputs.len(),
+        &mut [
+            &mut || {
+                for s in &lent {
+                    path.clear();
+                    path.add_to(s);
+                    black_box(&path);
+                }
+            },
+            &mut || {
+                for s in &written {
+                    written_shape::outline(s, &mut builder);
+                    black_box(&builder);
+                }
+            },
+            &mut || {
+                for s in &native {
+                    native_shape::outline(s, &mut other);
+                    black_box(&other);
+                }
+            },
+            &mut || {
+                for s in &lent {
+                    tight.clear();
+                    tight.add_to(s);
+                    black_box(&tight);
+                }
+            },
+        ],
+    );
+    print(
+        "outline",
+        kind,
+        &["library", "oracle", "std", "counted"],
+        &times,
+    );
+}
+
+fn outlines() {
+    outline("usual button", &[BUTTON; SHAPES]);
+    for (kind, make) in KINDS {
+        let mut random = Random(10);
+        let inputs: Vec<Sizes> = (0..SHAPES).map(|_| make(&mut random)).collect();
+        outline(kind, &inputs);
+    }
+}
+
 /// A conic's control, target and weight.
 type Conic = (Vec2, Vec2, f32);
 
@@ -323,6 +395,9 @@ pub fn run(names: &[&str]) {
         if asked("contains") && kind != "two radii" {
             contains(kind, make);
         }
+    }
+    if asked("outline") {
+        outlines();
     }
     if asked("line_to") {
         lines();

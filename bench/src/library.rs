@@ -16,6 +16,18 @@ mod c {
             shape_len: usize,
         ) -> u32;
         pub fn shackletongue_contains(shape: *const f32, len: usize, x: f32, y: f32) -> u32;
+        pub fn shackletongue_add_to(
+            shape: *const f32,
+            shape_len: usize,
+            counts: *mut u64,
+            counts_len: usize,
+            places: *mut f32,
+            places_len: usize,
+            verbs: *mut u8,
+            verbs_len: usize,
+            points: *mut f32,
+            points_len: usize,
+        ) -> u32;
     }
 
     /// Declares building calls, which have the record and the two buffers in common.
@@ -134,6 +146,24 @@ impl Path {
 
     pub fn points(&self) -> &[f32] {
         &self.points[..2 * self.counts[1] as usize]
+    }
+
+    /// The outline of a shape.
+    pub fn add_to(&mut self, shape: &[f32]) -> u32 {
+        unsafe {
+            c::shackletongue_add_to(
+                shape.as_ptr(),
+                shape.len(),
+                self.counts.as_mut_ptr(),
+                self.counts.len(),
+                self.places.as_mut_ptr(),
+                self.places.len(),
+                self.verbs.as_mut_ptr(),
+                self.verbs.len(),
+                self.points.as_mut_ptr(),
+                self.points.len(),
+            )
+        }
     }
 
     building!(move_to, shackletongue_move_to, x, y);

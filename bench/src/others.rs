@@ -64,7 +64,7 @@ macro_rules! shapes {
     ($name:ident, $variant:ident) => {
         pub mod $name {
             use oracle::vec2::Vec2;
-            use oracle::$variant::path::Rect;
+            use oracle::$variant::path::{access, PathBuilder, Rect};
             use oracle::$variant::superellipse::{CornerRadii, RoundSuperellipse};
 
             /// min, max, and the radii top left, top right, bottom left, bottom right.
@@ -81,6 +81,15 @@ macro_rules! shapes {
                     },
                 )
             }
+
+            /// The outline, into a builder that is cleared first.
+            #[inline(never)]
+            pub fn outline(shape: &RoundSuperellipse, builder: &mut PathBuilder) {
+                access::clear(builder);
+                shape.add_to(builder);
+            }
+
+            pub use access::with_room;
 
             #[inline(never)]
             pub fn contains(shape: &RoundSuperellipse, x: f32, y: f32) -> bool {
