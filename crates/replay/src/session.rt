@@ -6,6 +6,7 @@ use outline::BuildingCall;
 use reader::Cursor;
 use reader::Reading;
 use reader::Segment;
+use replies::Reply;
 use shape::Answer;
 use shape::RoundSuperellipse;
 use stream::Builder;
@@ -51,7 +52,7 @@ fn next_line(s: Session) -> Session {
 
 fn bad_line(s: Session) -> Session {
     let mut s = s;
-    answers::write_numbered(b"bad line ", s.line);
+    answers::write(Reply::BadLine(s.line));
     s.stopped = true;
     s
 }
@@ -74,7 +75,7 @@ fn write_segments(b: Builder, verbs: &[u8], floats: &[f32]) -> bool {
         if is_end(segment) {
             return true;
         }
-        answers::write_segment(segment);
+        answers::write(Reply::Element(segment));
         c = next;
         i += 1;
     }
@@ -84,10 +85,11 @@ fn write_segments(b: Builder, verbs: &[u8], floats: &[f32]) -> bool {
 // What a list holds at its end: its record.
 fn write_end(s: Session) {
     let kind = s.kind;
+    let b = s.builder;
     if let Kind::List = kind {
-        answers::write_record(s.builder);
+        answers::write(Reply::Record(b));
     }
-    answers::write_word(b"end");
+    answers::write(Reply::End);
 }
 
 fn write_stream(s: Session, verbs: &[u8], floats: &[f32]) {

@@ -32,8 +32,8 @@ is-end-requires c κs = search needs
 returns-2 : tie.Need-returns-2 Inv-loop μ-loop
 returns-2 c = search needs
 
-write-segment-requires : tie.Need-write-segment-requires Inv-loop μ-loop
-write-segment-requires c κs = search needs
+write-requires : tie.Need-write-requires Inv-loop μ-loop
+write-requires c κs = search needs
 
 add-i : tie.Need-add-i Inv-loop μ-loop
 add-i c = search needs
@@ -60,7 +60,7 @@ write-segments-spec =
     returns
     is-end-requires
     returns-2
-    write-segment-requires
+    write-requires
     add-i
     loop-less
     loop-again
