@@ -5,6 +5,7 @@
 //!        oracle replay-lists       calls, streams and points for the program `replay`
 //!        oracle replay             the answers to such a text on standard input
 //!        oracle fascia             the report on the panel file on standard input
+//!        oracle inspect            of each shape of the panel file on standard input, whether outline and touch keep together
 //!        oracle panel-files        panel files, good and damaged, for the program `panels`
 //!        oracle panels             the reports on such files on standard input
 //!        oracle largest-panel      a panel file of 630 shapes and 2,730 touches
@@ -69,11 +70,12 @@ fn main() -> io::Result<()> {
         ["replay-lists"] => print_lines(&mut out, replay_lists::lists()),
         ["replay"] => print_replay(&mut out),
         ["fascia"] => print_lines(&mut out, panel::report(&input()?)),
+        ["inspect"] => print_lines(&mut out, panel::inspection(&input()?)),
         ["panel-files"] => print_lines(&mut out, panel_files::lines()),
         ["panels"] => print_lines(&mut out, panel_files::reports(&input()?)),
         ["largest-panel"] => out.write_all(&panel_files::largest()),
         _ => {
-            eprintln!("usage: oracle vectors | answers | shapes | shape-fields | replay-lists | replay | fascia | panel-files | panels | largest-panel");
+            eprintln!("usage: oracle vectors | answers | shapes | shape-fields | replay-lists | replay | fascia | inspect | panel-files | panels | largest-panel");
             std::process::exit(2);
         }
     }?;

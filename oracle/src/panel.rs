@@ -1,16 +1,22 @@
-//! Document 01's panel file and its program `fascia`, over the original.
+//! Document 01's panel file and its program `fascia`, and the program `inspect`, over the original.
 
 use oracle::vec2::Vec2;
 use oracle::written::path::{access, PathBuilder};
-use oracle::written::superellipse::RoundSuperellipse;
+use oracle::written::superellipse::{access::shape_floats, RoundSuperellipse};
 
 use crate::stream::{shape, Refusal};
 
 /// The longest file.
 pub const LIMIT: usize = 65_536;
 
+/// What the original makes of a button's floats.
+struct Button {
+    floats: [f32; 12],
+    shape: Result<RoundSuperellipse, Refusal>,
+}
+
 enum Record {
-    Button(Result<RoundSuperellipse, Refusal>),
+    Button(Button),
     Touch(Vec2),
 }
 
@@ -24,7 +30,11 @@ fn first(file: &[u8]) -> Option<(Record, usize)> {
     let (len, kind) = (number(0)? as usize, number(2)?);
     let payload = file.get(4..4 + len)?;
     let record = match (kind, len) {
-        (1, 48) => Record::Button(shape(&floats(payload))),
+        (1, 48) => {
+            let floats = floats(payload);
+            let shape = shape(&floats);
+            Record::Button(Button { floats, shape })
+        }
         (2, 8) => {
             let [x, y] = floats(payload);
             Record::Touch(Vec2::new(x, y))
@@ -52,7 +62,7 @@ fn records(file: &[u8]) -> Result<Vec<Record>, usize> {
 /// Where each touch goes: each shape is made once.
 fn places(records: &[Record]) -> Vec<Option<usize>> {
     let shapes = records.iter().filter_map(|r| match r {
-        Record::Button(shape) => Some(shape),
+        Record::Button(button) => Some(&button.shape),
         Record::Touch(_) => None,
     });
     let shapes: Vec<_> = shapes.collect();
@@ -67,11 +77,16 @@ fn places(records: &[Record]) -> Vec<Option<usize>> {
     touches.collect()
 }
 
+fn outline(shape: &RoundSuperellipse) -> PathBuilder {
+    let mut b = PathBuilder::new();
+    shape.add_to(&mut b);
+    b
+}
+
 fn shape_line(index: usize, shape: &Result<RoundSuperellipse, Refusal>) -> String {
     match shape {
         Ok(shape) => {
-            let mut b = PathBuilder::new();
-            shape.add_to(&mut b);
+            let b = outline(shape);
             let (verbs, points) = (access::verbs(&b).len(), access::points(&b).len());
             format!("shape {index} {verbs} {points}")
         }
@@ -90,9 +105,9 @@ pub fn report(file: &[u8]) -> Vec<String> {
     let mut index = 0;
     for record in &records {
         lines.push(match record {
-            Record::Button(shape) => {
+            Record::Button(button) => {
                 index += 1;
-                shape_line(index - 1, shape)
+                shape_line(index - 1, &button.shape)
             }
             Record::Touch(_) => match places.next().unwrap() {
                 Some(i) => format!("touch {i}"),
@@ -102,6 +117,36 @@ pub fn report(file: &[u8]) -> Vec<String> {
     }
     lines.push("end".to_string());
     lines
+}
+
+/// Whether no center lies outside the bounds, a NaN counting as outside, and every point of the outline is finite.
+fn is_consistent(bounds: &[f32], shape: &RoundSuperellipse) -> bool {
+    let within = |i: usize, x: f32| bounds[i] <= x && x <= bounds[i + 2];
+    let (quadrants, _) = shape_floats(shape);
+    let centered = quadrants.iter().all(|q| within(0, q[0]) && within(1, q[1]));
+    centered && access::points(&outline(shape)).iter().all(|p| p.is_finite())
+}
+
+fn verdict(button: &Button) -> String {
+    match &button.shape {
+        Ok(shape) if is_consistent(&button.floats, shape) => "ok".to_string(),
+        Ok(_) => "parts company".to_string(),
+        Err(refusal) => refusal.clone(),
+    }
+}
+
+/// The lines of the program `inspect`.
+pub fn inspection(file: &[u8]) -> Vec<String> {
+    let records = match records(file) {
+        Ok(records) => records,
+        Err(at) => return vec![format!("refused 7 at {at}")],
+    };
+    let buttons = records.iter().filter_map(|r| match r {
+        Record::Button(button) => Some(button),
+        Record::Touch(_) => None,
+    });
+    let lines = buttons.enumerate().map(|(i, b)| format!("shape {i} {}", verdict(b)));
+    lines.collect()
 }
 
 #[cfg(test)]

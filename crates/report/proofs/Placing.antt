@@ -20,7 +20,8 @@ use Rattle.touch.proofs.Marking.{at-none, place-code, seek-below}
 use Rattle.touch.proofs.Answering.{few-shapes}
 use Rattle.report_line.specs.declared.Line.{Line}
 use Rattle.report_line.specs.Line.{lineOf}
-use Rattle.report.specs.Report.{touchLine, linesOf, textOf}
+use Rattle.report_line.specs.Text.{textOf}
+use Rattle.report.specs.Report.{touchLine, linesOf}
 use Rattle.report.specs.Lines.{lineFor, passed, Placed}
 
 -- the number of a place in a good file tells the place

@@ -1,7 +1,7 @@
 -- How a report is written, one record after the other. Cited by the contracts of inner functions. Definitions only.
 use Prim.Native.Nat.{ℕ, _+_}
 use mathlib.Core.Path.{_≡_}
-use mathlib.Core.List.{List, _++_, map}
+use mathlib.Core.List.{List, map}
 use lib.ListN.{length, take, drop}
 use Rattle.panel_file.specs.declared.Counts.{Counts}
 use Rattle.panel_file.specs.declared.Record.{Record}
@@ -24,9 +24,3 @@ passed c (TouchRecord p) = record { buttons = c .buttons; touches = c .touches +
 -- the places that the touches among rs go to, as numbers, stand in `touched` from index t on; they are looked for among all records
 unfoldable pub Placed : List Record → List ℕ → ℕ → List Record → Type 0
 Placed all touched t rs = take (length (touchesOf rs)) (drop t touched) ≡ map (λ p. codeOf (placeAmong all p)) (touchesOf rs)
-
--- a text over l from index `at` on; r is the index past it, and what is past it stays
-pub record Over (l : List ℕ) (at : ℕ) (text : List ℕ) (r : ℕ) (l' : List ℕ) : Type 0 where
-  pub past : r ≡ at + length text
-  pub front : take r l' ≡ take at l ++ text
-  pub rest : drop r l' ≡ drop r l

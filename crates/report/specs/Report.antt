@@ -1,6 +1,6 @@
 -- Document 01's program `fascia`: the report on a panel file, line by line and as text. Definitions only.
 use Prim.Native.Nat.{ℕ, _+_}
-use mathlib.Core.List.{List, [], _∷_, _++_}
+use mathlib.Core.List.{List, [], _∷_}
 use Rattle.panel_file.specs.declared.Record.{Record}
 use Rattle.panel_file.specs.declared.Record.the-variants.{Button as ButtonRecord, Touch as TouchRecord}
 use Rattle.panel_file.specs.Panel.{Answer, done, refused, recordsOf}
@@ -14,7 +14,6 @@ use Rattle.contour.specs.Entries.{outlineEntries}
 use Rattle.touch.specs.Touch.{Place, button, nowhere, shapeOf, placeAmong}
 use Rattle.report_line.specs.declared.Line.{Line}
 use Rattle.report_line.specs.declared.Line.the-variants.{Shape, Refused, Touch, Nowhere, End, Broken}
-use Rattle.report_line.specs.Line.{lineOf}
 
 -- the verbs and points of a shape's outline into a fresh builder
 unfoldable pub drawn : RoundSuperellipse → Need
@@ -44,8 +43,3 @@ reported (refused cause offset) = Broken cause offset ∷ []
 -- the report on a file
 unfoldable pub reportOf : List ℕ → List Line
 reportOf file = reported (recordsOf file)
-
--- the text of lines, one behind the other
-unfoldable pub textOf : List Line → List ℕ
-textOf [] = []
-textOf (l ∷ ls) = lineOf l ++ textOf ls

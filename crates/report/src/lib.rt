@@ -8,9 +8,9 @@ ghost use Rattle.io.specs.Counts.{Counts as Counts·of};
 ghost use Rattle.shape.specs.Refusal.{outcomeOf};
 ghost use Rattle.panel_file.specs.Panel.{recordsOf, isDone, recordsIn};
 ghost use Rattle.touch.specs.Touch.{placeOf};
-ghost use Rattle.report_line.specs.Line.{lineOf};
-ghost use Rattle.report.specs.Report.{shapeLine, touchLine, linesOf, reportOf, textOf};
-ghost use Rattle.report.specs.Lines.{lineFor, passed, Placed, Over};
+ghost use Rattle.report_line.specs.Text.{textOf, Over};
+ghost use Rattle.report.specs.Report.{shapeLine, touchLine, linesOf, reportOf};
+ghost use Rattle.report.specs.Lines.{lineFor, passed, Placed};
 use panel_file::Counts;
 use panel_file::Read;
 use panel_file::Record;
@@ -18,10 +18,6 @@ use report_line::Line;
 use shape::Answer;
 use touch::NOWHERE;
 use touch::TouchedAll;
-
-// A line has at most 72 bytes and a record at least 12, so a file of 65,536 bytes has a report of
-// at most 6 times its length, and the last line.
-pub const ROOM: usize = 393288;
 
 fn shape_line(index: usize, answer: Answer) -> Line
     ensures { λ r. ⌜ r ≡ shapeLine index (outcomeOf answer) ⌝ }
@@ -72,17 +68,6 @@ fn pass(c: Counts, record: Record) -> Counts
     }
 }
 
-// The line's text from index `at` on; the answer is the index past it.
-fn put_line(line: Line, out: &mut [u8; 393288], at: usize) -> usize
-    requires { ⌜ at + 72 ≤ 393288 ⌝ }
-    ensures { λ r. ⌜ (r ≤ at + 72) × Counts·of r (now (out .exit)) ⌝ }
-    ensures { λ r. ⌜ Over (now (out .entry)) at (lineOf line) r (now (out .exit)) ⌝ }
-{
-    let mut line_text = [0u8; 72];
-    let n = report_line::text_of(line, &mut line_text);
-    text::put(out, at, &line_text[..n])
-}
-
 // The report on a good file, with the places of its touches.
 fn put_lines(file: &[u8], touched: &[u32; 5461], out: &mut [u8; 393288]) -> usize
     requires { ⌜ (isDone (recordsOf (now file)) ≡ true) × Placed (recordsIn (recordsOf (now file))) (now touched) 0 (recordsIn (recordsOf (now file))) ⌝ }
@@ -97,11 +82,11 @@ fn put_lines(file: &[u8], touched: &[u32; 5461], out: &mut [u8; 393288]) -> usiz
     };
     loop {
         let Read::Record(record, next) = panel_file::record_at(file, at) else {
-            return put_line(Line::End, out, n);
+            return report_line::put_line(Line::End, out, n);
         };
         let t = counts.touches;
         let line = line_for(record, counts.buttons, touched[t]);
-        n = put_line(line, out, n);
+        n = report_line::put_line(line, out, n);
         counts = pass(counts, record);
         at = next;
     }
@@ -116,6 +101,6 @@ pub fn report(file: &[u8], out: &mut [u8; 393288]) -> usize
     let mut touched = [0u32; 5461];
     match touch::touch_all(file, &mut touched) {
         TouchedAll::Done(_) => put_lines(file, &touched, out),
-        TouchedAll::Broken(at) => put_line(Line::Broken(7, at), out, 0),
+        TouchedAll::Broken(at) => report_line::put_line(Line::Broken(7, at), out, 0),
     }
 }

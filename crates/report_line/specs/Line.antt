@@ -1,14 +1,14 @@
--- The lines of the report on a panel file, as the lists of their bytes. Definitions only.
+-- The lines of the reports on a panel file, as the lists of their bytes. Definitions only.
 use Prim.Native.Nat.{ℕ, _+_}
 use mathlib.Core.Path.{_≡_}
 use mathlib.Core.List.{List, [], _∷_, _++_}
 use lib.ListN.{length, take}
 use Rattle.text.specs.Written.{decimalText}
 use Rattle.report_line.specs.declared.Line.{Line}
-use Rattle.report_line.specs.declared.Line.the-variants.{Shape, Refused, Touch, Nowhere, End, Broken}
+use Rattle.report_line.specs.declared.Line.the-variants.{Shape, Refused, Touch, Nowhere, End, Consistent, Apart, Broken}
 
 -- `shape `
-abbrev shapeText : List ℕ
+abbrev pub shapeText : List ℕ
 shapeText = 115 ∷ 104 ∷ 97 ∷ 112 ∷ 101 ∷ 32 ∷ []
 
 -- `touch `
@@ -31,6 +31,14 @@ refusedText = 114 ∷ 101 ∷ 102 ∷ 117 ∷ 115 ∷ 101 ∷ 100 ∷ 32 ∷ []
 abbrev refusedBetween : List ℕ
 refusedBetween = 32 ∷ 114 ∷ 101 ∷ 102 ∷ 117 ∷ 115 ∷ 101 ∷ 100 ∷ 32 ∷ []
 
+-- ` ok`
+abbrev okText : List ℕ
+okText = 32 ∷ 111 ∷ 107 ∷ []
+
+-- ` parts company`
+abbrev apartText : List ℕ
+apartText = 32 ∷ 112 ∷ 97 ∷ 114 ∷ 116 ∷ 115 ∷ 32 ∷ 99 ∷ 111 ∷ 109 ∷ 112 ∷ 97 ∷ 110 ∷ 121 ∷ []
+
 -- ` at `
 abbrev atText : List ℕ
 atText = 32 ∷ 97 ∷ 116 ∷ 32 ∷ []
@@ -47,13 +55,15 @@ newline = 10 ∷ []
 unfoldable pub numbered : ℕ → List ℕ → List ℕ
 numbered n text = decimalText n ++ text
 
--- `shape I V P`, `shape I refused N`, `touch I`, `touch none`, `end`, `refused N at O`
+-- `shape I V P`, `shape I refused N`, `touch I`, `touch none`, `end`, `shape I ok`, `shape I parts company`, `refused N at O`
 unfoldable pub lineOf : Line → List ℕ
 lineOf (Shape index verbs points) = shapeText ++ numbered index blank ++ numbered verbs blank ++ numbered points newline
 lineOf (Refused index cause) = shapeText ++ numbered index refusedBetween ++ numbered cause newline
 lineOf (Touch index) = touchText ++ numbered index newline
 lineOf Nowhere = touchText ++ noneText ++ newline
 lineOf End = endText ++ newline
+lineOf (Consistent index) = shapeText ++ numbered index (okText ++ newline)
+lineOf (Apart index) = shapeText ++ numbered index (apartText ++ newline)
 lineOf (Broken cause offset) = refusedText ++ numbered cause atText ++ numbered offset newline
 
 -- the text behind the first `at` of l, in the first r of l'

@@ -4,8 +4,8 @@ use Prim.Native.Nat.{_≤_}
 use native.Mathlib.Omega.{arith}
 use lib.ListN.{length}
 use lib.Seq.{length-take-le}
-use Rattle.fascia.specs.declared.Input.the-variants.{Whole}
-use Rattle.fascia.specs.Input.{Within}
+use Rattle.input.specs.declared.Input.the-variants.{Whole}
+use Rattle.input.specs.Input.{Within}
 use borrow.Author.Needs.{needs}
 use Rattle.fascia.proofs.main.Statement.{statement}
 use Rattle.fascia.proofs.main.Tie as tie

@@ -10,10 +10,11 @@ use Rattle.panel_file.specs.declared.Record.{Record}
 use Rattle.panel_file.specs.Panel.{limit, recordsFrom, recordsOf, isDone, recordsIn}
 use Rattle.panel_file.proofs.Walking.{Within, read-within, step-done, step-records, stop-records}
 use Rattle.report_line.specs.declared.Line.the-variants.{End}
-use Rattle.report.specs.Report.{linesOf, textOf}
+use Rattle.report_line.specs.Text.{textOf}
+use Rattle.report.specs.Report.{linesOf}
 use Rattle.report.specs.Lines.{passed, Placed}
 use Rattle.report.proofs.Placing.{place-told, next-placed, next-line, touches-most, buttons-most}
-use Rattle.report.proofs.Writing.{one-line, over-rest, over-all}
+use Rattle.report_line.proofs.Writing.{one-line, over-rest, over-all}
 use Rattle.report.proofs.put_lines.Statement.{statement}
 use Rattle.report.proofs.put_lines.Tie as tie
 

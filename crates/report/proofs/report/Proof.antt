@@ -10,10 +10,11 @@ use Rattle.touch.specs.declared.TouchedAll.{TouchedAll}
 use Rattle.touch.specs.Touch.{left, countOf, touchAllOf}
 use Rattle.report_line.specs.declared.Line.the-variants.{Broken}
 use Rattle.report_line.specs.Line.{lineOf}
-use Rattle.report.specs.Report.{linesOf, reported, reportOf, textOf}
+use Rattle.report_line.specs.Text.{textOf}
+use Rattle.report.specs.Report.{linesOf, reported, reportOf}
 use Rattle.report.specs.Lines.{Placed}
 use Rattle.report.proofs.Placing.{all-placed, all-broken}
-use Rattle.report.proofs.Writing.{one-line, all-over}
+use Rattle.report_line.proofs.Writing.{one-line, all-over}
 use Rattle.report.proofs.report.Statement.{statement}
 use Rattle.report.proofs.report.Tie as tie
 

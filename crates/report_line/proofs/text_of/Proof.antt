@@ -44,6 +44,24 @@ word-requires-2 c κs = search needs
 enum-known-line-4 : tie.Need-enum-known-line-4
 enum-known-line-4 c = search needs
 
+slice-aggregate-verdict-line : tie.Need-slice-aggregate-verdict-line
+slice-aggregate-verdict-line c = search needs
+
+verdict-line-requires : tie.Need-verdict-line-requires
+verdict-line-requires c κs = search needs
+
+enum-known-line-5 : tie.Need-enum-known-line-5
+enum-known-line-5 c = search needs
+
+slice-aggregate-verdict-line-2 : tie.Need-slice-aggregate-verdict-line-2
+slice-aggregate-verdict-line-2 c = search needs
+
+verdict-line-requires-2 : tie.Need-verdict-line-requires-2
+verdict-line-requires-2 c κs = search needs
+
+enum-known-line-6 : tie.Need-enum-known-line-6
+enum-known-line-6 c = search needs
+
 broken-line-requires : tie.Need-broken-line-requires
 broken-line-requires c κs = search needs
 
@@ -65,7 +83,15 @@ unfolding lineOf
 returns-5 c = rw (c .before .before .before .enum-told2 .given .1) (all-added _ _ _ _ (c .word2 .ensures))
 
 returns-6 : tie.Need-returns-6
-returns-6 c = rw (c .before .before .before .line4 .given .1) (all-added _ _ _ _ (c .broken-line .ensures))
+unfolding lineOf
+returns-6 c = rw (c .before .before .before .before .line4 .given .1) (all-added _ _ _ _ (c .verdict-line .ensures))
+
+returns-7 : tie.Need-returns-7
+unfolding lineOf
+returns-7 c = rw (c .before .before .before .before .line5 .given .1) (all-added _ _ _ _ (c .verdict-line2 .ensures))
+
+returns-8 : tie.Need-returns-8
+returns-8 c = rw (c .before .before .before .line6 .given .1) (all-added _ _ _ _ (c .broken-line .ensures))
 
 pub text-of-spec : {M : Type 1} → statement M
 text-of-spec =
@@ -84,10 +110,18 @@ text-of-spec =
     slice-aggregate-word-2
     word-requires-2
     enum-known-line-4
+    slice-aggregate-verdict-line
+    verdict-line-requires
+    enum-known-line-5
+    slice-aggregate-verdict-line-2
+    verdict-line-requires-2
+    enum-known-line-6
     broken-line-requires
     returns
     returns-2
     returns-3
     returns-4
     returns-5
-    returns-6)
+    returns-6
+    returns-7
+    returns-8)

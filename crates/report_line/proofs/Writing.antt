@@ -9,12 +9,11 @@ use lib.ListN.{length, take, drop, length-append, length-take, take-append-drop}
 use lib.Seq.{take-at, drop-at, drop-drop}
 use Rattle.io.specs.Counts.{Counts}
 use Rattle.text.specs.Written.{Wrote, putText, pastText}
 use Rattle.report_line.specs.declared.Line.{Line}
-use Rattle.report_line.specs.declared.Line.the-variants.{Shape, Refused, Touch, Nowhere, End, Broken}
+use Rattle.report_line.specs.declared.Line.the-variants.{Shape, Refused, Touch, Nowhere, End, Consistent, Apart, Broken}
 use Rattle.report_line.specs.Line.{numbered, lineOf}
 use Rattle.report_line.proofs.Adding.{decimal-most}
-use Rattle.report.specs.Report.{textOf}
-use Rattle.report.specs.Lines.{Over}
+use Rattle.report_line.specs.Text.{textOf, Over}
 
 -- a line is not long
 pub line-most : (l : Line) → length (lineOf l) ≤ 72
@@ -24,6 +23,8 @@ line-most (Refused index cause) = simp length-append (omega (arith, decimal-most
 line-most (Touch index) = simp length-append (omega (arith, decimal-most index))
 line-most Nowhere = omega arith
 line-most End = omega arith
+line-most (Consistent index) = simp length-append (omega (arith, decimal-most index))
+line-most (Apart index) = simp length-append (omega (arith, decimal-most index))
 line-most (Broken cause offset) = simp length-append (omega (arith, decimal-most cause, decimal-most offset))
 
 -- what `text::put` writes where there is room

@@ -1,13 +1,13 @@
--- `fascia::read_all` meets its contract: each turn holds more bytes. Assumes nothing.
+-- `input::read_all` meets its contract: each turn holds more bytes. Assumes nothing.
 use mathlib.Core.Path.{_≡_}
 use Prim.Native.Nat.{_-_, _≤_}
 use native.Mathlib.Omega.{arith}
 use borrow.Author.Needs.{needs}
 use lib.ListN.{length}
-use Rattle.fascia.specs.declared.Step.the-variants.{More}
-use Rattle.fascia.specs.Input.{Further}
-use Rattle.fascia.proofs.read_all.Statement.{statement}
-use Rattle.fascia.proofs.read_all.Tie as tie
+use Rattle.input.specs.declared.Step.the-variants.{More}
+use Rattle.input.specs.Input.{Further}
+use Rattle.input.proofs.read_all.Statement.{statement}
+use Rattle.input.proofs.read_all.Tie as tie
 
 abbrev Inv-loop : tie.InvT-loop
 Inv-loop file₀ held₀ file held = (length file ≡ length file₀) × (held ≤ length file)

@@ -1,9 +1,9 @@
--- `report::put_line` meets its contract. Assumes nothing.
+-- `report_line::put_line` meets its contract. Assumes nothing.
 use native.Mathlib.Omega.{arith}
-use Rattle.report.proofs.Writing.{line-most, put-over}
+use Rattle.report_line.proofs.Writing.{line-most, put-over}
 use borrow.Author.Needs.{needs}
-use Rattle.report.proofs.put_line.Statement.{statement}
-use Rattle.report.proofs.put_line.Tie as tie
+use Rattle.report_line.proofs.put_line.Statement.{statement}
+use Rattle.report_line.proofs.put_line.Tie as tie
 
 text-of-requires : tie.Need-text-of-requires
 text-of-requires c κs = search needs
