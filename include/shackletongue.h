@@ -18,7 +18,7 @@
  * Of several causes the first in this list is returned: 100, then 1 to 7.
  *
  * THREADS. There is no global state: calls on different memory may run at the same time. The stack that a call takes
- * is bounded; the most is some 80 KiB, by shackletongue_touch_all.
+ * is bounded; the most is under 96 KiB, by shackletongue_touch_all.
  *
  * FLOATS. Every operation is rounded once, to nearest, ties to even: the caller leaves the rounding mode as C sets it
  * up, and does not flush subnormals. The sign and payload of a NaN say nothing.

@@ -1,6 +1,5 @@
 //! Whatever is passed, every call answers: no panic, and the refusal that document 01 names.
 #![allow(
-    missing_docs,
     clippy::unwrap_used,
     clippy::indexing_slicing,
     clippy::arithmetic_side_effects

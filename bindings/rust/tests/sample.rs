@@ -1,5 +1,5 @@
 //! The sample panel, held to the stored report and the stored picture.
-#![allow(missing_docs, clippy::unwrap_used, clippy::arithmetic_side_effects)]
+#![allow(clippy::unwrap_used, clippy::arithmetic_side_effects)]
 
 use std::fs;
 use std::process::Command;
