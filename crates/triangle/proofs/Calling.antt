@@ -59,9 +59,16 @@ module _ {M : Type 1} {𝓤 : URA M} {H : Heap 𝓤} {A : Atoms 𝓤} (W : Given
   -- a call that takes the point p, which lies at l
   module _ (c : Point → Call) (known : Triple 𝓤 (C f) (PointCalled 𝓤 H A c)) (p : Point) (is-p : Is P.the-row p (point-val p ∷ [])) (j l : ℕ) (lies-p : spotOf 𝓤 H E j ≡ (P′.mir, l, 0)) where
     abbrev point-to : ℕ → ℕ → ℕ → GName → GName → GName → PointCalled 𝓤 H A c .Ghost
-    point-to ν₁ ν₂ ν₃ δ₁ δ₂ δ₃ =
-        (((ν₁ ∷ [], (ν₂ ∷ [], (ν₃ ∷ [], tt))), (fullShare, (fullShare, (fullShare, tt))), tt, (at-record S δ₁ (s .builder), (at-verbs S δ₂ (s .verbs), (at-points S δ₃ (s .floats), (p, tt)))),
-        (vptr (S .l₇) 0 ∷ [], (verbs-val S (s .verbs) ∷ [], (points-val S (s .floats) ∷ [], (point-val p ∷ [], tt))))), tt)
+    point-to ν₁ ν₂ ν₃ δ₁ δ₂ δ₃ = (
+      (
+        (ν₁ ∷ [], (ν₂ ∷ [], (ν₃ ∷ [], tt))),
+        (fullShare, (fullShare, (fullShare, tt))),
+        tt,
+        (at-record S δ₁ (s .builder), (at-verbs S δ₂ (s .verbs), (at-points S δ₃ (s .floats), (p, tt)))),
+        (vptr (S .l₇) 0 ∷ [], (verbs-val S (s .verbs) ∷ [], (points-val S (s .floats) ∷ [], (point-val p ∷ [], tt)))),
+      ),
+      tt,
+    )
 
     owns-point : ent 𝓤 (emp 𝓤) (sem 𝓤 H A (fsep (P.the-row .own p (point-val p ∷ [])) ftrue))
     owns-point = qed W [] ∵ nothing ! $ owned ! P.the-row (Is P.the-row) (LL.makes P.the-type P′.the-plain 𝓤 H A) p _ is-p $ fjoin ! $ done !
@@ -85,9 +92,16 @@ module _ {M : Type 1} {𝓤 : URA M} {H : Heap 𝓤} {A : Atoms 𝓤} (W : Given
   -- the close
   module _ (at-mem : Memory → SProp 𝓤) (run : Routine → Fun 𝓤) (known : Triple 𝓤 (C f) (CloseCalled 𝓤 H A at-mem run)) where
     abbrev close-to : ℕ → ℕ → ℕ → GName → GName → GName → CloseCalled 𝓤 H A at-mem run .Ghost
-    close-to ν₁ ν₂ ν₃ δ₁ δ₂ δ₃ =
-        (((ν₁ ∷ [], (ν₂ ∷ [], (ν₃ ∷ [], tt))), (fullShare, (fullShare, (fullShare, tt))), tt, (at-record S δ₁ (s .builder), (at-verbs S δ₂ (s .verbs), (at-points S δ₃ (s .floats), tt))),
-        (vptr (S .l₇) 0 ∷ [], (verbs-val S (s .verbs) ∷ [], (points-val S (s .floats) ∷ [], tt)))), tt)
+    close-to ν₁ ν₂ ν₃ δ₁ δ₂ δ₃ = (
+      (
+        (ν₁ ∷ [], (ν₂ ∷ [], (ν₃ ∷ [], tt))),
+        (fullShare, (fullShare, (fullShare, tt))),
+        tt,
+        (at-record S δ₁ (s .builder), (at-verbs S δ₂ (s .verbs), (at-points S δ₃ (s .floats), tt))),
+        (vptr (S .l₇) 0 ∷ [], (verbs-val S (s .verbs) ∷ [], (points-val S (s .floats) ∷ [], tt))),
+      ),
+      tt,
+    )
 
     close-came : (ν₁ ν₂ ν₃ : ℕ) (δ₁ δ₂ δ₃ : GName) (w : Val) (Γ : List (Item 𝓤)) (G : Goal 𝓤 H) → Soaks G
         → ((z : Told s Close) → Sq W (Returned S s Close ν₁ ν₂ ν₃ δ₁ δ₂ δ₃ z w Γ) G) → Sq W (raw (CloseCalled 𝓤 H A at-mem run .post (close-to ν₁ ν₂ ν₃ δ₁ δ₂ δ₃) w) ∷ Γ) G

@@ -155,8 +155,16 @@ module _ {M : Type 1} (𝓤 : URA M) (H : Heap 𝓤) (A : Atoms 𝓤) (W : Given
   meets : (𝓣 : Tables 𝓤 H) → Triple 𝓤 (𝓣 .C #move) (PointCalled 𝓤 H A MoveTo) → Triple 𝓤 (𝓣 .C #line) (PointCalled 𝓤 H A LineTo) → Triple 𝓤 (𝓣 .C #close) (CloseCalled 𝓤 H A at-mem run)
       → Meets 𝓤 H A self.signature (WpFn 𝓤 H (𝓣 .C) (𝓣 .Λ) code.function) (self.spec 𝓤 H A at-mem run)
   meets 𝓣 move-known line-known close-known =
-      walk-meets 𝓤 H A self.ended stayed W (goes-none 𝓤 H A W 2 (λ _. B.the-row) yes (λ κs x f. refl), (goes-slice 𝓤 H A W 2 0 tt (plain (λ _. u8)), (goes-slice 𝓤 H A W 2 1 tt (plain (λ _. f32)),
-      (goes-none 𝓤 H A W 2 (λ _. P.the-row) yes (λ κs x f. refl), (goes-none 𝓤 H A W 2 (λ _. P.the-row) yes (λ κs x f. refl), (goes-none 𝓤 H A W 2 (λ _. P.the-row) yes (λ κs x f. refl), tt)))))) (self.clauses 𝓤 H A at-mem run)
+      walk-meets 𝓤 H A self.ended stayed W (
+        goes-none 𝓤 H A W 2 (λ _. B.the-row) yes (λ κs x f. refl),
+        (
+          goes-slice 𝓤 H A W 2 0 tt (plain (λ _. u8)),
+          (
+            goes-slice 𝓤 H A W 2 1 tt (plain (λ _. f32)),
+            (goes-none 𝓤 H A W 2 (λ _. P.the-row) yes (λ κs x f. refl), (goes-none 𝓤 H A W 2 (λ _. P.the-row) yes (λ κs x f. refl), (goes-none 𝓤 H A W 2 (λ _. P.the-row) yes (λ κs x f. refl), tt))),
+          ),
+        ),
+      ) (self.clauses 𝓤 H A at-mem run)
       (WpFn 𝓤 H (𝓣 .C) (𝓣 .Λ) code.function) (WpFn-mono 𝓤 H (W .laws) 𝓣 code.function) (walks (𝓣 .C) (𝓣 .Λ) (fmOf 𝓤 H (W .laws) 𝓣) move-known line-known close-known)
 
 pub triangle-spec : {M : Type 1} → stated.statement M
