@@ -20,10 +20,14 @@ pub fn write_word(word: &[u8]) {
     write_line(&mut out, n);
 }
 
-pub fn write_refusal(number: u64) {
+// A refusal; nothing of 0, which is none.
+pub fn write_number(number: u8) {
+    if number == 0 {
+        return;
+    }
     let mut out = [0u8; 64];
     let n = text::put(&mut out, 0, b"refused ");
-    let n = text::put_decimal(&mut out, n, number);
+    let n = text::put_decimal(&mut out, n, number as u64);
     write_line(&mut out, n);
 }
 
@@ -89,7 +93,7 @@ fn write_segments(b: Builder, verbs: &[u8], points: &[f32]) -> bool {
     let mut i = 0;
     while i <= verbs.len() {
         let Reading::Item(segment, next) = reader::read(b, verbs, points, c) else {
-            write_refusal(1);
+            write_number(1);
             return false;
         };
         if is_end(segment) {

@@ -1,3 +1,4 @@
+-- `contours::draw` is safe and ends: each turn draws a triangle. Assumes nothing.
 use Prim.Native.Nat.{_-_, _≤_}
 use mathlib.Core.Path.{_≡_}
 use lib.ListN.{length}
@@ -6,17 +7,16 @@ use Rattle.contours.proofs.draw.Statement.{statement}
 use Rattle.contours.proofs.draw.Tie as tie
 
 abbrev Inv-loop : tie.InvT-loop
-Inv-loop verbs₀ points₀ lent-verbs₀ lent-points₀ held₀ x₀ i₀ verbs points lent-verbs lent-points held x i =
-    (i ≤ 4) × (length verbs ≡ length verbs₀) × (length points ≡ length points₀) × (length lent-verbs ≡ length lent-verbs₀) × (length lent-points ≡ length lent-points₀)
+Inv-loop face verbs₀ points₀ held₀ x₀ i₀ verbs points held x i = (i ≤ 4) × (length verbs ≡ length verbs₀) × (length points ≡ length points₀)
 
 abbrev μ-loop : tie.MeasureT-loop
-μ-loop verbs₀ points₀ lent-verbs₀ lent-points₀ held₀ x₀ i₀ verbs points lent-verbs lent-points held x i = 4 - i
+μ-loop face verbs₀ points₀ held₀ x₀ i₀ verbs points held x i = 4 - i
 
 loop-holds : tie.Need-loop-holds Inv-loop μ-loop
 loop-holds c = search needs
 
-both-requires : tie.Need-both-requires Inv-loop μ-loop
-both-requires c κs = search needs
+draw-at-requires : tie.Need-draw-at-requires Inv-loop μ-loop
+draw-at-requires c κs = search needs
 
 add-i : tie.Need-add-i Inv-loop μ-loop
 add-i c = search needs
@@ -27,17 +27,14 @@ loop-less c = search needs
 loop-again : tie.Need-loop-again Inv-loop μ-loop
 loop-again c = search needs
 
+write-stream-requires : tie.Need-write-stream-requires Inv-loop μ-loop
+write-stream-requires c κs = search needs
+
 same-length : tie.Need-same-length Inv-loop μ-loop
 same-length c = search needs
 
 same-length-2 : tie.Need-same-length-2 Inv-loop μ-loop
 same-length-2 c = search needs
-
-same-length-3 : tie.Need-same-length-3 Inv-loop μ-loop
-same-length-3 c = search needs
-
-same-length-4 : tie.Need-same-length-4 Inv-loop μ-loop
-same-length-4 c = search needs
 
 returns : tie.Need-returns Inv-loop μ-loop
 returns c = search needs
@@ -49,12 +46,11 @@ draw-spec =
     Inv-loop
     μ-loop
     loop-holds
-    both-requires
+    draw-at-requires
     add-i
     loop-less
     loop-again
+    write-stream-requires
     same-length
     same-length-2
-    same-length-3
-    same-length-4
     returns)

@@ -1,3 +1,4 @@
+-- `contours::lines::write_segments` is safe and ends: each turn takes a segment. Assumes nothing.
 use Prim.Native.Nat.{_+_, _-_, _≤_}
 use lib.ListN.{length}
 use borrow.Author.Needs.{needs}
@@ -19,8 +20,8 @@ read-requires c κs = search needs
 enum-known-segment : tie.Need-enum-known-segment Inv-loop μ-loop
 enum-known-segment c = search needs
 
-write-refusal-requires : tie.Need-write-refusal-requires Inv-loop μ-loop
-write-refusal-requires c κs = search needs
+write-number-requires : tie.Need-write-number-requires Inv-loop μ-loop
+write-number-requires c κs = search needs
 
 returns : tie.Need-returns Inv-loop μ-loop
 returns c = search needs
@@ -55,7 +56,7 @@ write-segments-spec =
     loop-holds
     read-requires
     enum-known-segment
-    write-refusal-requires
+    write-number-requires
     returns
     is-end-requires
     returns-2
