@@ -100,14 +100,14 @@ done-told (done rs) n old found e =
     let many : n ≡ m = cc in
     let held : found ≡ places ++ drop m old = cc in
     let as-many : length places ≡ m = length-map (touchesOf rs) _ in
-    let front : take m found ≡ places = ap (take m) held ∙ take-at places (drop m old) m as-many in    (
+    let front : take m found ≡ places = ap (take m) held ∙ take-at places (drop m old) m as-many in (
       refl,
       many,
       ap length held ∙ length-append places (drop m old) ∙ omega (arith, length-drop m old),
       λ results.
-      sym
-      (ap (λ (k : ℕ). allLeft (done k) (take k found ++ drop k results)) many
-      ∙ ap (λ (ps : List ℕ). allLeft (done m) (ps ++ drop m results)) front),
+          sym
+          (ap (λ (k : ℕ). allLeft (done k) (take k found ++ drop k results)) many
+          ∙ ap (λ (ps : List ℕ). allLeft (done m) (ps ++ drop m results)) front),
     )
 done-told (refused c at) n old found e = let z : _≡_ {A = ℕ} 0 1 = cc in absurd (omega arith)
 
