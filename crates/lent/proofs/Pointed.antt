@@ -9,16 +9,15 @@ use mir.Syntax.{Name, Fn, local, valueLocal, tyInt, tyFloat, tyRef, mut, named, 
 use mir.Val.{Val, vint, vptr}
 use lib.Ieee.{binary32}
 use base.Logic.{SProp, ent, emp, via, fst∗, id⊢}
-use base.Fml.{Lft, Share, GName, flft}
+use base.Fml.{Lft, Share, GName, ftrue, flft, fsep}
 use prog.Wp.{Heap, Calls, Loops, WpFn, Tables}
-use ghost.Atoms.{Atoms}
+use ghost.Atoms.{Atoms, sem}
 use contract.Monad.{fact}
-use types.Kit.{Given, Item, ‵, raw, some, later, _⊛_, ⋆, Goal, Soaks, Sq, _$_, _∵_, !, qed, by, move, drop, use1, split, join, pick, fsplit, fsplit3, fjoin, fjoin3, feqL, feqI, suffices, frame, await, done}
-use types.Run.{look, init, forget, stop, from, load, and-then, no-more, returns, enter, alloc1, alloc0, params1, pass1, pass0, free1, free0}
+use types.Kit.{Given, Item, ‵, raw, some, later, _⊛_, ⋆, Goal, Soaks, Sq, _$_, _∵_, !, qed, by, move, drop, use1, split, join, pick, fsplit, fsplit3, fjoin, suffices, frame, await, done}
+use types.Run.{look, init, forget, stop, from, load, and-then, no-more, returns, enter, alloc1, alloc0, params1, pass1, pass0}
 use sound.WpLaws.{FmC, fmOf, WpFn-mono}
 use denote.RattleType.{owns}
 use denote.Laws.{Is}
-use denote.Plain.{uint-makes}
 use denote.Builtin.{u8, f32}
 use denote.Ref.{RefT, MutRef, now, ptr-vals, mut-tells}
 use denote.Slice.{MutSlice, Room, slice-vals, mut-slice-tells}
@@ -110,30 +109,25 @@ module _ (c : Point → Call) (f : Name) {M : Type 1} (𝓤 : URA M) (H : Heap �
   abbrev T : Item 𝓤
   T = Tokens κ₂ κ₃ q₂ q₃
 
-  abbrev Z : Type 0
-  Z = Told h x y (c p)
-
   goes : Is B.the-row h (mach h ∷ []) → ent 𝓤 (⋆ 𝓤 H A (T ∷ Others ∷ [])) (Called c 𝓤 H A .pre to)
   goes g =
       qed W (T ∷ Others ∷ []) ∵
       move ! (1 ∷ []) $ owned ! B.the-row (Is B.the-row) (LL.makes B.the-type B′.the-plain 𝓤 H A) h _ g $ fjoin ! $ move ! (1 ∷ 0 ∷ []) $ join ! $ frame ! $ done !
 
-  came : (w : Val) (Γ : List (Item 𝓤)) (G : Goal 𝓤 H) → Soaks G → ((z : Z) → Sq W (Last x y (z .1 .0) (z .1 .1 .0) ∷ T ∷ ‵ (N.the-row .own (z .0) (w ∷ [])) ∷ Γ) G) → Sq W (raw (Called c 𝓤 H A .post to w) ∷ Γ) G
-  came w Γ G soaks k =
+  came : (w : Val) (Γ : List (Item 𝓤)) (G : Goal 𝓤 H) → Soaks G → ((z : Told h x y (c p)) → Sq W (Last x y (z .verbs) (z .floats) ∷ T ∷ ‵ (N.the-row .own (z .answer) (w ∷ [])) ∷ Γ) G) → Sq W (raw (Called c 𝓤 H A .post to w) ∷ Γ) G
+  came w Γ G soaks next =
       use1 W (later (some (λ (r : Answer). (T ⊛ ‵ (N.the-row .own r (w ∷ []))) ⊛ raw (ensured 𝓤 H A beneath.ended (Beneath c 𝓤 H A) (κ₂, (κ₃, tt)) (h, (x, (y, (p, tt)))) tt r)))) (id⊢ 𝓤 _) $ await ! soaks $ pick ! (λ r.
       split ! $ move ! (1 ∷ []) $ use1 W (some (λ (zs : Unit {0} × (List ℕ × (List Float × (Unit {0} × Unit {0})))). ‵ (lasts beneath.ended (κ₂, (κ₃, tt)) (h, (x, (y, (p, tt)))) zs) ⊛ raw (fact 𝓤 (Ensured h x y (c p) r (zs .1 .0) (zs .1 .1 .0))))) (id⊢ 𝓤 _) $ pick ! (λ zs.
-      split ! $ move ! (1 ∷ []) $ heard ! (Ensured h x y (c p) r (zs .1 .0) (zs .1 .1 .0)) (λ e. fsplit ! $ drop ! $ fsplit ! $ fsplit ! $ move ! (1 ∷ []) $ feqL ! (λ m₁. move ! (1 ∷ []) $ fsplit ! $ fsplit ! $ move ! (1 ∷ []) $ feqL ! (λ m₂.
-      -- [last of points; nothing; last of verbs; tokens and the answer]
-      move ! (1 ∷ []) $ drop ! $ move ! (0 ∷ 1 ∷ []) $ join ! $ move ! (1 ∷ []) $ split ! $ move ! (2 ∷ 0 ∷ 1 ∷ []) $ k (r, (zs .1 .0, (zs .1 .1 .0, (e, (m₁, m₂))))))))))
+      split ! $ move ! (1 ∷ []) $ heard ! (Ensured h x y (c p) r (zs .1 .0) (zs .1 .1 .0)) (λ e. shared.taken W κ₁ κ₂ κ₃ q₁ q₂ q₃ h x y (c p) _ _ r (zs .1 .0) (zs .1 .1 .0) w Γ G e next)))
 
-  exits : (z : Z) → z .0 .number < 2 ^ 8 → ent 𝓤 (⋆ 𝓤 H A (Borrow κ₁ q₁ b o γ (z .0 .builder) (T ∷ Last x y (z .1 .0) (z .1 .1 .0) ∷ []))) (Post (vint w8 (z .0 .number)))
+  owns-point : ent 𝓤 (emp 𝓤) (sem 𝓤 H A (fsep (P.the-row .own p (pv ∷ [])) ftrue))
+  owns-point = qed W [] ∵ nothing ! $ owned ! P.the-row (Is P.the-row) (LL.makes P.the-type P′.the-plain 𝓤 H A) p _ gp $ fjoin ! $ done !
+
+  exits : (z : Told h x y (c p)) → z .answer .number < 2 ^ 8 → ent 𝓤 (⋆ 𝓤 H A (Borrow κ₁ q₁ b o γ (z .answer .builder) (T ∷ Last x y (z .verbs) (z .floats) ∷ []))) (Post (vint w8 (z .answer .number)))
   exits z fits =
-      qed W (Borrow κ₁ q₁ b o γ (z .0 .builder) (T ∷ Last x y (z .1 .0) (z .1 .1 .0) ∷ [])) ∵ move ! (4 ∷ []) $ split ! $ move ! (2 ∷ 3 ∷ 4 ∷ 5 ∷ []) $
-      suffices ! _ (ends-at 𝓤 H A above.ended stayed (Above c 𝓤 H A) W (((κ₁, (κ₂, (κ₃, tt))), (q₁, (q₂, (q₃, tt))), tt, a, vals), tt) (vint w8 (z .0 .number)) (z .0 .number) (z .0 .builder, (z .1 .0, (z .1 .1 .0, (tt, tt)))) (tt, (z .1 .1 .1 .1 .0, (z .1 .1 .1 .1 .1, (tt, tt))))) $
-      says ! (z .1 .1 .1 .0) $ move ! (2 ∷ 3 ∷ []) $ join ! $ frame ! $
-      nothing ! $ owned ! P.the-row (Is P.the-row) (LL.makes P.the-type P′.the-plain 𝓤 H A) p _ gp $ fjoin ! $ move ! (3 ∷ 0 ∷ []) $ fjoin ! $ move ! (3 ∷ 0 ∷ []) $ fjoin ! $
-      move ! (1 ∷ 2 ∷ 0 ∷ []) $ feqI ! (List Val) (vptr b o ∷ []) (vptr b o ∷ []) refl $ fjoin3 ! $ fjoin ! $
-      owned ! u8 (Is u8) (uint-makes 𝓤 H A W w8) (z .0 .number) _ (refl, fits) $ move ! (1 ∷ 0 ∷ []) $ done !
+      qed W (Borrow κ₁ q₁ b o γ (z .answer .builder) (T ∷ Last x y (z .verbs) (z .floats) ∷ [])) ∵
+      suffices ! _ (ends-at 𝓤 H A above.ended stayed (Above c 𝓤 H A) W (((κ₁, (κ₂, (κ₃, tt))), (q₁, (q₂, (q₃, tt))), tt, a, vals), tt) (vint w8 (z .answer .number)) (z .answer .number) (z .answer .builder, (z .verbs, (z .floats, (tt, tt)))) (tt, (z .same-verbs, (z .same-floats, (tt, tt))))) $
+      says ! (z .says) $ by ! (shared.left W κ₁ κ₂ κ₃ q₁ q₂ q₃ h x y (c p) b o γ (fsep (P.the-row .own p (pv ∷ [])) ftrue) owns-point z fits)
 
   module _ (C : Calls 𝓤 H) (Λ : Loops 𝓤 H) (fm : FmC 𝓤 H (W .laws) C) (known : Triple 𝓤 (C f) (Called c 𝓤 H A)) where
     walk : Room u8 (length (x .now)) → Room f32 (length (y .now)) → ent 𝓤 (onEntry 𝓤 H A above.signature (κ₁, (κ₂, (κ₃, tt))) (q₁, (q₂, (q₃, tt))) a vals) (WpFn 𝓤 H C Λ (function f) (vptr b o ∷ slice x ∷ slice y ∷ pv ∷ []) Post)
@@ -152,7 +146,7 @@ module _ (c : Point → Call) (f : Name) {M : Type 1} (𝓤 : URA M) (H : Heap �
         Others (Called c 𝓤 H A .post to) (λ g. via 𝓤 _ (goes g) (known to)) came _ (λ z fits.
         returns ! (look ! 8 refl) $ forget ! 8 refl $ forget ! 15 refl $
         move ! (8 ∷ 26 ∷ 5 ∷ 25 ∷ 6 ∷ 24 ∷ 7 ∷ 23 ∷ 15 ∷ 22 ∷ 9 ∷ 21 ∷ 10 ∷ 20 ∷ 11 ∷ 19 ∷ 12 ∷ 18 ∷ 13 ∷ 17 ∷ 14 ∷ 16 ∷ []) $
-        free1 ! $ free1 ! $ free1 ! $ free1 ! $ free1 ! $ free1 ! $ free1 ! $ free1 ! $ free1 ! $ free1 ! $ free1 ! $ free0 ! $ by ! (exits z fits)))))))))))))
+        shared.frees-all ! _ $ by ! (exits z fits)))))))))))))
 
 module _ (c : Point → Call) (f : Name) {M : Type 1} (𝓤 : URA M) (H : Heap 𝓤) (A : Atoms 𝓤) (W : Given 𝓤 H A) where
   walks : (C : Calls 𝓤 H) (Λ : Loops 𝓤 H) → FmC 𝓤 H (W .laws) C → Triple 𝓤 (C f) (Called c 𝓤 H A) → Walks 𝓤 H A above.ended stayed (WpFn 𝓤 H C Λ (function f)) (Above c 𝓤 H A)

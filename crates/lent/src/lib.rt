@@ -33,6 +33,8 @@ fn answer_of(a: Built) -> Answer
     }
 }
 
+// Beneath each call: the by-value call, its answer taken apart. The branches are here, so that the calls
+// below have none.
 fn move_answer(b: Builder, verbs: &mut [u8], points: &mut [f32], p: Point) -> Answer
     ensures { λ r. ⌜ answered (r .builder) (r .number) (now (verbs .exit)) (now (points .exit)) ≡ step (state b (now (verbs .entry)) (now (points .entry))) (Call.MoveTo p) ⌝ }
 {
@@ -51,6 +53,8 @@ fn close_answer(b: Builder, verbs: &mut [u8], points: &mut [f32]) -> Answer
     answer_of(builder::close(b, verbs, points))
 }
 
+// The calls: the record is copied, and the one that comes back is stored; the answer is the number. On a
+// refusal the record that comes back is the same.
 pub fn move_to(b: &mut Builder, verbs: &mut [u8], points: &mut [f32], p: Point) -> u8
     ensures { λ r. ⌜ answered (now (b .exit)) r (now (verbs .exit)) (now (points .exit)) ≡ step (state (now (b .entry)) (now (verbs .entry)) (now (points .entry))) (Call.MoveTo p) ⌝ }
 {

@@ -15,13 +15,12 @@ use prog.Wp.{Heap, Calls, Loops, WpFn, Tables}
 use ghost.Atoms.{Atoms}
 use contract.Monad.{Fun, fact}
 use contract.Running.{givenOf, tables, tablesOf}
-use types.Kit.{Given, Item, ‵, raw, some, later, _⊛_, ⋆, Goal, Soaks, Sq, _$_, _∵_, !, qed, by, move, keep, drop, use1, split, join, pick, fsplit, fsplit3, fjoin, fjoin3, feqL, feqI, suffices, frame, await, done}
-use types.Run.{look, init, forget, no-more, returns, enter, alloc1, alloc0, params1, pass1, pass0, free1, free0}
+use types.Kit.{Given, Item, ‵, raw, some, later, _⊛_, ⋆, Goal, Soaks, Sq, _$_, _∵_, !, qed, by, move, keep, drop, use1, split, join, pick, fsplit, fsplit3, fjoin, suffices, frame, await, done}
+use types.Run.{look, init, forget, no-more, returns, enter, alloc1, alloc0, params1, pass1, pass0}
 use sound.WpLaws.{FmC, fmOf, WpFn-mono}
 use denote.RattleType.{owns}
 use denote.Laws.{Is}
 use denote.Memory.{mem}
-use denote.Plain.{uint-makes}
 use denote.Builtin.{u8, f32}
 use denote.Ref.{RefT, MutRef, now, ptr-vals, mut-tells}
 use denote.Slice.{MutSlice, Room, slice-vals, mut-slice-tells}
@@ -83,30 +82,22 @@ module _ {M : Type 1} (𝓤 : URA M) (H : Heap 𝓤) (A : Atoms 𝓤) (W : Given
   abbrev T : Item 𝓤
   T = Tokens κ₂ κ₃ q₂ q₃
 
-  abbrev Z : Type 0
-  Z = Told h x y Close
-
   goes : Is B.the-row h (mach h ∷ []) → ent 𝓤 (⋆ 𝓤 H A (T ∷ Others ∷ [])) (Called 𝓤 H A at-mem run .pre to)
   goes g =
       qed W (T ∷ Others ∷ []) ∵
       move ! (1 ∷ []) $ owned ! B.the-row (Is B.the-row) (LL.makes B.the-type B′.the-plain 𝓤 H A) h _ g $ fjoin ! $ move ! (1 ∷ 0 ∷ []) $ join ! $ frame ! $ done !
 
-  came : (w : Val) (Γ : List (Item 𝓤)) (G : Goal 𝓤 H) → Soaks G → ((z : Z) → Sq W (Last x y (z .1 .0) (z .1 .1 .0) ∷ T ∷ ‵ (N.the-row .own (z .0) (w ∷ [])) ∷ Γ) G) → Sq W (raw (Called 𝓤 H A at-mem run .post to w) ∷ Γ) G
-  came w Γ G soaks k =
+  came : (w : Val) (Γ : List (Item 𝓤)) (G : Goal 𝓤 H) → Soaks G → ((z : Told h x y Close) → Sq W (Last x y (z .verbs) (z .floats) ∷ T ∷ ‵ (N.the-row .own (z .answer) (w ∷ [])) ∷ Γ) G) → Sq W (raw (Called 𝓤 H A at-mem run .post to w) ∷ Γ) G
+  came w Γ G soaks next =
       use1 W (later (some (λ (r : Answer). (T ⊛ ‵ (N.the-row .own r (w ∷ []))) ⊛ raw (ensured 𝓤 H A beneath.ended (beneath.clauses 𝓤 H A at-mem run) (κ₂, (κ₃, tt)) (h, (x, (y, tt))) tt r)))) (id⊢ 𝓤 _) $ await ! soaks $ pick ! (λ r.
       split ! $ move ! (1 ∷ []) $ use1 W (some (λ (zs : Unit {0} × (List ℕ × (List Float × Unit {0}))). ‵ (lasts beneath.ended (κ₂, (κ₃, tt)) (h, (x, (y, tt))) zs) ⊛ raw (fact 𝓤 (Ensured h x y Close r (zs .1 .0) (zs .1 .1 .0))))) (id⊢ 𝓤 _) $ pick ! (λ zs.
-      split ! $ move ! (1 ∷ []) $ heard ! (Ensured h x y Close r (zs .1 .0) (zs .1 .1 .0)) (λ e. fsplit ! $ drop ! $ fsplit ! $ fsplit ! $ move ! (1 ∷ []) $ feqL ! (λ m₁. move ! (1 ∷ []) $ fsplit ! $ fsplit ! $ move ! (1 ∷ []) $ feqL ! (λ m₂.
-      -- [last of points; nothing; last of verbs; tokens and the answer]
-      move ! (1 ∷ []) $ drop ! $ move ! (0 ∷ 1 ∷ []) $ join ! $ move ! (1 ∷ []) $ split ! $ move ! (2 ∷ 0 ∷ 1 ∷ []) $ k (r, (zs .1 .0, (zs .1 .1 .0, (e, (m₁, m₂))))))))))
+      split ! $ move ! (1 ∷ []) $ heard ! (Ensured h x y Close r (zs .1 .0) (zs .1 .1 .0)) (λ e. shared.taken W κ₁ κ₂ κ₃ q₁ q₂ q₃ h x y Close _ _ r (zs .1 .0) (zs .1 .1 .0) w Γ G e next)))
 
-  exits : (z : Z) → z .0 .number < 2 ^ 8 → ent 𝓤 (⋆ 𝓤 H A (Borrow κ₁ q₁ b o γ (z .0 .builder) (T ∷ Last x y (z .1 .0) (z .1 .1 .0) ∷ []))) (Post (vint w8 (z .0 .number)))
+  exits : (z : Told h x y Close) → z .answer .number < 2 ^ 8 → ent 𝓤 (⋆ 𝓤 H A (Borrow κ₁ q₁ b o γ (z .answer .builder) (T ∷ Last x y (z .verbs) (z .floats) ∷ []))) (Post (vint w8 (z .answer .number)))
   exits z fits =
-      qed W (Borrow κ₁ q₁ b o γ (z .0 .builder) (T ∷ Last x y (z .1 .0) (z .1 .1 .0) ∷ [])) ∵ move ! (4 ∷ []) $ split ! $ move ! (2 ∷ 3 ∷ 4 ∷ 5 ∷ []) $
-      suffices ! _ (ends-at 𝓤 H A self.ended stayed (self.clauses 𝓤 H A at-mem run) W (((κ₁, (κ₂, (κ₃, tt))), (q₁, (q₂, (q₃, tt))), tt, a, vals), tt) (vint w8 (z .0 .number)) (z .0 .number) (z .0 .builder, (z .1 .0, (z .1 .1 .0, tt))) (tt, (z .1 .1 .1 .1 .0, (z .1 .1 .1 .1 .1, tt)))) $
-      says ! (z .1 .1 .1 .0) $ move ! (2 ∷ 3 ∷ []) $ join ! $ frame ! $
-      nothing ! $ move ! (3 ∷ 0 ∷ []) $ fjoin ! $ move ! (3 ∷ 0 ∷ []) $ fjoin ! $
-      move ! (1 ∷ 2 ∷ 0 ∷ []) $ feqI ! (List Val) (vptr b o ∷ []) (vptr b o ∷ []) refl $ fjoin3 ! $ fjoin ! $
-      owned ! u8 (Is u8) (uint-makes 𝓤 H A W w8) (z .0 .number) _ (refl, fits) $ move ! (1 ∷ 0 ∷ []) $ done !
+      qed W (Borrow κ₁ q₁ b o γ (z .answer .builder) (T ∷ Last x y (z .verbs) (z .floats) ∷ [])) ∵
+      suffices ! _ (ends-at 𝓤 H A self.ended stayed (self.clauses 𝓤 H A at-mem run) W (((κ₁, (κ₂, (κ₃, tt))), (q₁, (q₂, (q₃, tt))), tt, a, vals), tt) (vint w8 (z .answer .number)) (z .answer .number) (z .answer .builder, (z .verbs, (z .floats, tt))) (tt, (z .same-verbs, (z .same-floats, tt)))) $
+      says ! (z .says) $ by ! (shared.left W κ₁ κ₂ κ₃ q₁ q₂ q₃ h x y Close b o γ ftrue (id⊢ 𝓤 _) z fits)
 
   module _ (C : Calls 𝓤 H) (Λ : Loops 𝓤 H) (fm : FmC 𝓤 H (W .laws) C) (known : Triple 𝓤 (C #beneath) (Called 𝓤 H A at-mem run)) where
     walk : Room u8 (length (x .now)) → Room f32 (length (y .now)) → ent 𝓤 (onEntry 𝓤 H A self.signature (κ₁, (κ₂, (κ₃, tt))) (q₁, (q₂, (q₃, tt))) a vals) (WpFn 𝓤 H C Λ code.function (vptr b o ∷ slice x ∷ slice y ∷ []) Post)
@@ -124,7 +115,7 @@ module _ {M : Type 1} (𝓤 : URA M) (H : Heap 𝓤) (A : Atoms 𝓤) (W : Given
         Others (Called 𝓤 H A at-mem run .post to) (λ g. via 𝓤 _ (goes g) (known to)) came _ (λ z fits.
         returns ! (look ! 8 refl) $ forget ! 8 refl $
         move ! (8 ∷ 25 ∷ 5 ∷ 24 ∷ 6 ∷ 23 ∷ 7 ∷ 22 ∷ 9 ∷ 21 ∷ 10 ∷ 20 ∷ 11 ∷ 19 ∷ 12 ∷ 18 ∷ 13 ∷ 17 ∷ 14 ∷ 16 ∷ []) $
-        free1 ! $ free1 ! $ free1 ! $ free1 ! $ free1 ! $ free1 ! $ free1 ! $ free1 ! $ free1 ! $ free1 ! $ free0 ! $ keep ! (0 ∷ 1 ∷ 2 ∷ 3 ∷ 4 ∷ []) $ by ! (exits z fits))))))))))))
+        shared.frees-all ! _ $ keep ! (0 ∷ 1 ∷ 2 ∷ 3 ∷ 4 ∷ []) $ by ! (exits z fits))))))))))))
 
 module _ {M : Type 1} (𝓤 : URA M) (H : Heap 𝓤) (A : Atoms 𝓤) (W : Given 𝓤 H A) (at-mem : Memory → SProp 𝓤) (run : Routine → Fun 𝓤) where
   walks : (C : Calls 𝓤 H) (Λ : Loops 𝓤 H) → FmC 𝓤 H (W .laws) C → Triple 𝓤 (C #beneath) (Called 𝓤 H A at-mem run) → Walks 𝓤 H A self.ended stayed (WpFn 𝓤 H C Λ code.function) (self.clauses 𝓤 H A at-mem run)

@@ -46,7 +46,7 @@ use Rattle.calls.specs.declared.Call.the-variants.{MoveTo, LineTo, Close}
 use Rattle.calls.specs.Calls.{Outcome, step}
 use Rattle.lists.specs.Simulation.{run, answers}
 use Rattle.lists.specs.Book.{reply, building}
-use Rattle.lent.proofs.Body.{mach, slice}
+use Rattle.lent.proofs.Body.{mach, slice, frees-all}
 use Rattle.lent.proofs.move_to.Symbol as move-def
 use Rattle.lent.proofs.move_to.Symbol.{name as #move}
 use Rattle.lent.proofs.move_to.Met as move-thm
@@ -60,7 +60,7 @@ use Rattle.triangle.specs.declared.Drawn.{Drawn}
 use Rattle.triangle.specs.Triangle.{Trace, sides, traceOf, drawn}
 use Rattle.triangle.proofs.Drawn as D
 use Rattle.triangle.proofs.Drawn.Laws as D′
-use Rattle.triangle.proofs.Lending.{frees-all, Sound, Stage, Told, Setting, after}
+use Rattle.triangle.proofs.Lending.{Sound, Stage, Told, Setting, after}
 use Rattle.triangle.proofs.Calling.{PointCalled, CloseCalled, point-val, lends-point, lends-close}
 use Rattle.triangle.proofs.triangle.Key.{name as #self}
 use Rattle.triangle.proofs.triangle as self
