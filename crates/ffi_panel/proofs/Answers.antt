@@ -1,7 +1,7 @@
 -- What the exported functions answer, case by case. Assumes nothing.
 use mathlib.Core.Path.{_≡_, refl, sym, ap, _∙_}
 use mathlib.Core.Bool.{true}
-use mathlib.Core.List.{List, [], _∷_, _++_}
+use mathlib.Core.List.{List, _++_}
 use Prim.Native.Nat.{ℕ, _+_, _-_, _≤_}
 use native.Mathlib.Omega.{arith}
 use borrow.Author.Tests.{eq-eqb, ne-eqb}
@@ -20,7 +20,7 @@ use Rattle.touch.specs.declared.TouchedAll.the-variants.{Done, Broken as AllBro
 use Rattle.touch.specs.Touch.{touchOf, touchedOf, countOf, placesOf, leftOf, touchAllOf}
 use Rattle.touch.specs.Touch.{left as allLeft}
 use Rattle.touch.proofs.Answering.{few}
-use Rattle.ffi_panel.specs.Asking.{answered, Left, left, kindNumber, recordFloats, recordLeft, recordOf, placeLeft, placeOfTouch, countLeft, placesOfTouches}
+use Rattle.ffi_panel.specs.Asking.{answered, left, kindNumber, recordFloats, recordLeft, recordOf, placeLeft, placeOfTouch, countLeft, placesOfTouches}
 use Rattle.ffi_panel.proofs.Storing.{one-set, two-set}
 
 -- ---- a record

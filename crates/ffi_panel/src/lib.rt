@@ -6,7 +6,7 @@ ghost use Prim.Native.Nat.{_+_, _≤_};
 ghost use lib.ListN.{length, take, drop};
 ghost use Rattle.stream.specs.Stream.{put, floatsIn};
 ghost use Rattle.octant.specs.Octant.{point};
-ghost use Rattle.ffi_panel.specs.Asking.{answered, left, kindNumber, pointsOf, recordFloats, recordOf, placeOfTouch, placesOfTouches};
+ghost use Rattle.ffi_panel.specs.Asking.{answered, left, kindNumber, recordFloats, recordOf, placeOfTouch, placesOfTouches};
 use geometry::Point;
 use panel_file::Button;
 use panel_file::Read;
