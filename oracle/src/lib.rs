@@ -4,6 +4,11 @@
 
 pub mod ground;
 pub mod random;
+pub mod shapes;
+pub mod stream;
 pub mod vec2;
+pub mod words;
 
 include!(concat!(env!("OUT_DIR"), "/original.rs"));
+
+pub use written::panel;
