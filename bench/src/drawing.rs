@@ -8,7 +8,7 @@ use std::time::Instant;
 use oracle::random::Random;
 use oracle::vec2::Vec2;
 
-use crate::library::{self, Path};
+use crate::library::{self, Path, Shape};
 use crate::others::{native_shape, shape_floats, written_path, written_shape};
 use crate::speed::print;
 
@@ -80,8 +80,8 @@ const KINDS: [(&str, fn(&mut Random) -> Sizes); 4] = [
 ];
 
 /// The library's shape.
-fn made(s: &Sizes) -> [f32; library::SHAPE_FLOATS] {
-    let mut floats = [0.0; library::SHAPE_FLOATS];
+fn made(s: &Sizes) -> Shape {
+    let mut floats = [0.0; 89];
     assert_eq!(
         library::shape(s, &mut floats),
         0,
@@ -104,7 +104,7 @@ fn new(kind: &str, make: fn(&mut Random) -> Sizes) {
             "library and oracle differ"
         );
     }
-    let mut floats = [0.0; library::SHAPE_FLOATS];
+    let mut floats = [0.0; 89];
     let times = least(
         SHAPES,
         &mut [
@@ -164,7 +164,7 @@ fn near(r: &mut Random, low: f32, high: f32, from: f64, to: f64) -> f32 {
 fn contains(kind: &str, make: fn(&mut Random) -> Sizes) {
     let mut random = Random(8);
     let inputs: Vec<Sizes> = (0..SHAPES).map(|_| make(&mut random)).collect();
-    let lent: Vec<[f32; library::SHAPE_FLOATS]> = inputs.iter().map(made).collect();
+    let lent: Vec<Shape> = inputs.iter().map(made).collect();
     let written: Vec<_> = inputs.iter().map(written_shape::new).collect();
     let native: Vec<_> = inputs.iter().map(native_shape::new).collect();
     for (place, choose) in PLACES {
@@ -214,7 +214,7 @@ const BUTTON: Sizes = [
 /// ns per outline. `counted` is the library in buffers with room for the outline and not for the largest one,
 /// so that the need is counted first.
 fn outline(kind: &str, inputs: &[Sizes]) {
-    let lent: Vec<[f32; library::SHAPE_FLOATS]> = inputs.iter().map(made).collect();
+    let lent: Vec<Shape> = inputs.iter().map(made).collect();
     let written: Vec<_> = inputs.iter().map(written_shape::new).collect();
     let native: Vec<_> = inputs.iter().map(native_shape::new).collect();
     let mut path = Path::with_room(1035, 2074);
@@ -223,7 +223,7 @@ fn outline(kind: &str, inputs: &[Sizes]) {
     let mut other = native_shape::with_room(1035, 2074);
     for (ours, theirs) in lent.iter().zip(&written) {
         path.clear();
-        assert_eq!(path.add_to(ours), 0, "room for the largest outline");
+        assert_eq!(path.lent().add(ours), 0, "room for the largest outline");
         written_shape::outline(theirs, &mut builder);
         assert!(
             written_path::same(&builder, &path),
@@ -236,7 +236,7 @@ fn outline(kind: &str, inputs: &[Sizes]) {
             &mut || {
                 for s in &lent {
                     path.clear();
-                    path.add_to(s);
+                    path.lent().add(s);
                     black_box(&path);
                 }
             },
@@ -255,7 +255,7 @@ fn outline(kind: &str, inputs: &[Sizes]) {
             &mut || {
                 for s in &lent {
                     tight.clear();
-                    tight.add_to(s);
+                    tight.lent().add(s);
                     black_box(&tight);
                 }
             },
@@ -338,7 +338,7 @@ fn build<T>(
             &mut || {
                 for (start, calls) in inputs {
                     path.clear();
-                    path.move_to(start.x, start.y);
+                    path.lent().move_to(start.x, start.y);
                     calls.iter().for_each(|c| ours(&mut path, c));
                     black_box(&path);
                 }
@@ -366,7 +366,7 @@ fn lines() {
         "line_to",
         &paths(|r, _| vec(r), |to| *to),
         |path, p| {
-            path.line_to(p.x, p.y);
+            path.lent().line_to(p.x, p.y);
         },
         |builder, p| written_path::line_to(builder, *p),
     );
@@ -378,7 +378,7 @@ fn conics(quads: usize) {
         "conic_to",
         &paths(|r, pen| conic(r, pen, quads), |c| c.1),
         |path, (ctrl, to, weight)| {
-            path.conic_to(ctrl.x, ctrl.y, to.x, to.y, *weight);
+            path.lent().conic_to(ctrl.x, ctrl.y, to.x, to.y, *weight);
         },
         |builder, c| written_path::conic_to(builder, *c),
     );

@@ -1,9 +1,10 @@
-//! usage: bench speed [NAME..] | bench compare [NAME..]
+//! usage: bench speed [NAME..] | bench compare [NAME..] | bench compare drawing [OPTION..]
 
 mod compare;
 mod drawing;
 mod library;
 mod others;
+mod scale;
 mod speed;
 
 fn main() {
@@ -14,9 +15,10 @@ fn main() {
             speed::run(names);
             drawing::run(names);
         }
+        ["compare", "drawing", ref options @ ..] => scale::run(options),
         ["compare", ref names @ ..] => compare::run(names),
         _ => {
-            eprintln!("usage: bench speed [NAME..] | bench compare [NAME..]");
+            eprintln!("usage: bench speed [NAME..] | bench compare [NAME..] | bench compare drawing [OPTION..]");
             std::process::exit(2);
         }
     }

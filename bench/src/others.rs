@@ -113,6 +113,7 @@ pub fn shape_floats(shape: &oracle::written::superellipse::RoundSuperellipse) ->
 /// The original's builder, whose vectors have their room reserved.
 pub mod written_path {
     use crate::library::Path;
+    use crate::scale;
     use oracle::vec2::Vec2;
     use oracle::written::path::access;
 
@@ -148,9 +149,10 @@ pub mod written_path {
         let points = access::points(builder).iter().flat_map(|p| [p.x, p.y]);
         verbs
             .map(access::verb_number)
-            .eq(path.verbs().iter().copied())
+            .eq(path.held_verbs().iter().copied())
+            && 2 * access::points(builder).len() == path.held_floats().len()
             && points
-                .map(f32::to_bits)
-                .eq(path.points().iter().map(|x| x.to_bits()))
+                .zip(path.held_floats())
+                .all(|(a, b)| scale::same(a, *b))
     }
 }
