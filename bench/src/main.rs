@@ -3,6 +3,7 @@
 mod compare;
 mod drawing;
 mod library;
+mod measure;
 mod others;
 mod scale;
 mod speed;
@@ -15,6 +16,7 @@ fn main() {
             speed::run(names);
             drawing::run(names);
         }
+        ["measure", ref options @ ..] => measure::run(options),
         ["compare", "drawing", ref options @ ..] => scale::run(options),
         ["compare", ref names @ ..] => compare::run(names),
         _ => {
