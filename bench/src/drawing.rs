@@ -5,14 +5,16 @@
 use std::hint::black_box;
 use std::time::Instant;
 
+use oracle::panel_files;
 use oracle::random::Random;
 use oracle::vec2::Vec2;
 
-use crate::library::{self, Path, Shape};
+use crate::library::{self, Path, Shape, NOWHERE, RESULTS};
 use crate::others::{native_shape, shape_floats, written_path, written_shape};
-use crate::speed::print;
+use crate::speed::row;
 
 const ROUNDS: usize = 200;
+const FILE_ROUNDS: usize = 40;
 const SHAPES: usize = 256;
 const POINTS: usize = 16;
 /// Calls of a path before it is begun anew.
@@ -20,9 +22,17 @@ const LENGTH: usize = 64;
 const PATHS: usize = 16;
 
 /// One round of each in turn, again and again: the least time of each over `calls`.
-fn least(calls: usize, bodies: &mut [&mut dyn FnMut()]) -> Vec<f64> {
-    let mut times = vec![f64::INFINITY; bodies.len()];
-    for _ in 0..ROUNDS {
+fn least<const N: usize>(calls: usize, bodies: [&mut dyn FnMut(); N]) -> [f64; N] {
+    least_of(ROUNDS, calls, bodies)
+}
+
+fn least_of<const N: usize>(
+    rounds: usize,
+    calls: usize,
+    mut bodies: [&mut dyn FnMut(); N],
+) -> [f64; N] {
+    let mut times = [f64::INFINITY; N];
+    for _ in 0..rounds {
         for (time, body) in times.iter_mut().zip(bodies.iter_mut()) {
             let start = Instant::now();
             body();
@@ -107,7 +117,7 @@ fn new(kind: &str, make: fn(&mut Random) -> Sizes) {
     let mut floats = [0.0; 89];
     let times = least(
         SHAPES,
-        &mut [
+        [
             &mut || {
                 for s in &inputs {
                     library::shape(s, &mut floats);
@@ -126,7 +136,7 @@ fn new(kind: &str, make: fn(&mut Random) -> Sizes) {
             },
         ],
     );
-    print("new", kind, &["library", "oracle", "std"], &times);
+    row("new", kind, times, "0.8");
 }
 
 /// A point in the middle of the box, near one of its corners, or beyond it.
@@ -179,7 +189,7 @@ fn contains(kind: &str, make: fn(&mut Random) -> Sizes) {
         let (mut a, mut b, mut c) = (0u64, 0u64, 0u64);
         let times = least(
             points.len(),
-            &mut [
+            [
                 &mut || {
                     a = 0;
                     for (k, (x, y)) in points.iter().enumerate() {
@@ -202,7 +212,7 @@ fn contains(kind: &str, make: fn(&mut Random) -> Sizes) {
         );
         black_box((a, b, c));
         let name = format!("{kind}, {place}");
-        print("contains", &name, &["library", "oracle", "std"], &times);
+        row("contains", &name, times, "1.0");
     }
 }
 
@@ -232,7 +242,7 @@ fn outline(kind: &str, inputs: &[Sizes]) {
     }
     let times = least(
         inputs.len(),
-        &mut [
+        [
             &mut || {
                 for s in &lent {
                     path.clear();
@@ -261,12 +271,9 @@ fn outline(kind: &str, inputs: &[Sizes]) {
             },
         ],
     );
-    print(
-        "outline",
-        kind,
-        &["library", "oracle", "std", "counted"],
-        &times,
-    );
+    let [library, written, std, counted] = times;
+    row("outline", kind, [library, written, std], "0.6; 1.0 to std");
+    row("outline, need counted", kind, [counted, written, std], "");
 }
 
 fn outlines() {
@@ -334,7 +341,7 @@ fn build<T>(
     let mut builder = written_path::with_room(verbs, points);
     let times = least(
         PATHS * LENGTH,
-        &mut [
+        [
             &mut || {
                 for (start, calls) in inputs {
                     path.clear();
@@ -357,7 +364,9 @@ fn build<T>(
         written_path::same(&builder, &path),
         "library and oracle differ"
     );
-    print(name, how, &["library", "oracle"], &times);
+    // of the functions that were written out the builder calls none: the two builds of the Rust are one
+    let [library, rust] = times;
+    row(name, how, [library, rust, rust], "1.0");
 }
 
 fn lines() {
@@ -384,6 +393,58 @@ fn conics(quads: usize) {
     );
 }
 
+/// The shapes of a panel file and as many touches in the order in which a film is scanned.
+fn by_rows(file: &[u8]) -> Vec<u8> {
+    let mut rest = file;
+    let mut made = Vec::new();
+    while let [low, high, ..] = *rest {
+        let (record, next) = rest.split_at(4 + u16::from_le_bytes([low, high]) as usize);
+        if record.len() == 52 {
+            made.extend(record);
+        }
+        rest = next;
+    }
+    for k in 0..42 * 65 {
+        let (x, y) = ((k % 65) as f32, (k / 65) as f32);
+        made.extend([8, 0, 2, 0]);
+        for v in [x * 1510.0 / 64.0 - 5.0, y * 1060.0 / 41.0 - 5.0] {
+            made.extend(v.to_le_bytes());
+        }
+    }
+    made
+}
+
+/// ns per touch, where each touch of a file goes: the records read and the shapes made in the same time.
+fn all_touches(how: &str, file: &[u8]) {
+    let mut results = [0; RESULTS];
+    let mut count = [0];
+    assert_eq!(library::touch_all(file, &mut results, &mut count), 0);
+    let (mut ours, mut theirs, mut native) = (0, Vec::new(), Vec::new());
+    let times = least_of(
+        FILE_ROUNDS,
+        count[0] as usize,
+        [
+            &mut || {
+                ours = library::touch_all(file, &mut results, &mut count);
+                black_box(&results);
+            },
+            &mut || theirs = written_shape::all_touches(file),
+            &mut || native = native_shape::all_touches(file),
+        ],
+    );
+    let theirs = theirs.iter().map(|p| p.map_or(NOWHERE, |i| i as u32));
+    let equal = ours == 0 && theirs.eq(results[..count[0] as usize].iter().copied());
+    assert!(equal, "library and oracle differ");
+    black_box(native);
+    row("all touches", how, times, "");
+}
+
+fn touches() {
+    let anywhere = panel_files::largest();
+    all_touches("anywhere", &anywhere);
+    all_touches("by rows", &by_rows(&anywhere));
+}
+
 pub fn run(names: &[&str]) {
     let asked = |name: &str| names.is_empty() || names.contains(&name);
     for (kind, make) in KINDS {
@@ -404,5 +465,8 @@ pub fn run(names: &[&str]) {
     }
     if asked("conic_to") {
         [1, 8, 32].into_iter().for_each(conics);
+    }
+    if asked("touches") {
+        touches();
     }
 }

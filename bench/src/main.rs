@@ -1,4 +1,7 @@
-//! usage: bench speed [NAME..] | bench compare [NAME..] | bench compare drawing [OPTION..]
+//! usage: bench speed [NAME..]
+//!        bench compare [NAME..]
+//!        bench compare drawing [--minutes N] [--seed N] [--round N]
+//!        bench measure [check | SHAPES [SEED]]
 
 mod compare;
 mod drawing;
@@ -13,14 +16,15 @@ fn main() {
     let words: Vec<&str> = words.iter().map(String::as_str).collect();
     match words[..] {
         ["speed", ref names @ ..] => {
+            speed::head();
             speed::run(names);
             drawing::run(names);
         }
-        ["measure", ref options @ ..] => measure::run(options),
         ["compare", "drawing", ref options @ ..] => scale::run(options),
         ["compare", ref names @ ..] => compare::run(names),
+        ["measure", ref options @ ..] => measure::run(options),
         _ => {
-            eprintln!("usage: bench speed [NAME..] | bench compare [NAME..] | bench compare drawing [OPTION..]");
+            eprintln!("usage: bench speed [NAME..] | compare [NAME..] | compare drawing [OPTION..] | measure [OPTION..]");
             std::process::exit(2);
         }
     }

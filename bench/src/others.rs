@@ -64,22 +64,15 @@ macro_rules! shapes {
     ($name:ident, $variant:ident) => {
         pub mod $name {
             use oracle::vec2::Vec2;
-            use oracle::$variant::path::{access, PathBuilder, Rect};
-            use oracle::$variant::superellipse::{CornerRadii, RoundSuperellipse};
+            use oracle::$variant::panel;
+            use oracle::$variant::path::{access, PathBuilder};
+            use oracle::$variant::superellipse::access::made_of;
+            use oracle::$variant::superellipse::RoundSuperellipse;
 
             /// min, max, and the radii top left, top right, bottom left, bottom right.
             #[inline(never)]
             pub fn new(s: &[f32; 12]) -> RoundSuperellipse {
-                let point = |k: usize| Vec2::new(s[2 * k], s[2 * k + 1]);
-                RoundSuperellipse::new(
-                    Rect::new(point(0), point(1)),
-                    CornerRadii {
-                        top_left: point(2),
-                        top_right: point(3),
-                        bottom_left: point(4),
-                        bottom_right: point(5),
-                    },
-                )
+                made_of(s)
             }
 
             /// The outline, into a builder that is cleared first.
@@ -90,6 +83,12 @@ macro_rules! shapes {
             }
 
             pub use access::with_room;
+
+            /// Where each touch of a good panel file goes.
+            #[inline(never)]
+            pub fn all_touches(file: &[u8]) -> Vec<Option<usize>> {
+                panel::places(&panel::records(file).unwrap_or_default())
+            }
 
             #[inline(never)]
             pub fn contains(shape: &RoundSuperellipse, x: f32, y: f32) -> bool {

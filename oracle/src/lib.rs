@@ -3,6 +3,7 @@
 //! speed alone.
 
 pub mod ground;
+pub mod panel_files;
 pub mod random;
 pub mod shapes;
 pub mod stream;

@@ -13,11 +13,10 @@
 
 use std::io::{self, BufRead, Read, Write};
 
-use oracle::{native, panel, shapes, stream, words};
+use oracle::{native, panel, panel_files, shapes, stream, words};
 
 mod answers;
 mod outline_lists;
-mod panel_files;
 mod replay;
 mod replay_lists;
 mod vectors;
