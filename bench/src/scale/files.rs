@@ -38,13 +38,39 @@ fn good(inputs: &mut Inputs, records: usize) -> (Vec<u8>, Vec<Sizes>) {
     let (mut file, mut buttons) = (Vec::new(), Vec::new());
     for _ in 0..records {
         if inputs.one_in(3) {
-            let sizes = inputs.sizes();
-            push(&mut file, 1, &sizes);
-            buttons.push(sizes);
+            add_button(inputs, &mut file, &mut buttons);
         } else {
-            let p = touch(inputs, &buttons);
-            push(&mut file, 2, &p);
+            add_touch(inputs, &mut file, &buttons);
         }
+    }
+    (file, buttons)
+}
+
+fn add_button(inputs: &mut Inputs, file: &mut Vec<u8>, buttons: &mut Vec<Sizes>) {
+    let sizes = inputs.sizes();
+    push(file, 1, &sizes);
+    buttons.push(sizes);
+}
+
+fn add_touch(inputs: &mut Inputs, file: &mut Vec<u8>, buttons: &[Sizes]) {
+    let p = touch(inputs, buttons);
+    push(file, 2, &p);
+}
+
+/// A file of 65,536 bytes, the longest, or of one byte or one record more.
+fn longest(inputs: &mut Inputs) -> (Vec<u8>, Vec<Sizes>) {
+    let (mut file, mut buttons) = (Vec::new(), Vec::new());
+    // so that whole touches fill the rest
+    for _ in 0..1 + 3 * inputs.below(12) {
+        add_button(inputs, &mut file, &mut buttons);
+    }
+    while file.len() < panel::LIMIT {
+        add_touch(inputs, &mut file, &buttons);
+    }
+    match inputs.below(4) {
+        0 => file.push(0),
+        1 => add_touch(inputs, &mut file, &buttons),
+        _ => {}
     }
     (file, buttons)
 }
@@ -128,12 +154,13 @@ fn touches(inputs: &mut Inputs, file: &[u8], buttons: &[Sizes], tally: &mut Tall
             Err(at as u64),
         ),
         Ok(mut records) => {
-            let held = panel::places(&records).len();
+            let held = records.iter();
+            let held = held.filter(|r| matches!(r, Record::Touch(_))).count();
             records.extend(points.iter().map(|p| Record::Touch(Vec2::new(p[0], p[1]))));
             let places = panel::places(&records);
             let (held, asked) = places.split_at(held);
             let indices = held.iter().map(|p| p.map_or(NOWHERE, |i| i as u32));
-            tally.count("touches of files", held.len() as u64);
+            tally.count("touches", held.len() as u64);
             let equal = answer == 0
                 && count == [held.len() as u64]
                 && indices.eq(results[..held.len()].iter().copied())
@@ -141,9 +168,9 @@ fn touches(inputs: &mut Inputs, file: &[u8], buttons: &[Sizes], tally: &mut Tall
             (equal, Ok(asked.to_vec()))
         }
     };
-    tally.case("files, all touches", equal, || bytes(file));
+    tally.case("files", equal, || bytes(file));
     if answer == 7 {
-        tally.count("of these broken", 1);
+        tally.count("files broken", 1);
     }
     for (k, [x, y]) in points.into_iter().enumerate() {
         let mut place = [u64::MAX];
@@ -155,20 +182,19 @@ fn touches(inputs: &mut Inputs, file: &[u8], buttons: &[Sizes], tally: &mut Tall
                 None => (101, [u64::MAX]),
             },
         };
-        tally.case("touches one by one", (answer, place) == expected, || {
+        tally.case("touches", (answer, place) == expected, || {
             format!("{:08x} {:08x} in {}", x.to_bits(), y.to_bits(), bytes(file))
         });
     }
 }
 
 pub fn file(inputs: &mut Inputs, tally: &mut Tally) {
-    let most = match inputs.below(40) {
-        0 => 4000,
-        1..=4 => 200,
-        _ => 24,
+    let (mut file, buttons) = match inputs.below(200) {
+        0 => longest(inputs),
+        1..=5 => any_number(inputs, 4000),
+        6..=24 => any_number(inputs, 200),
+        _ => any_number(inputs, 24),
     };
-    let records = inputs.below(most);
-    let (mut file, buttons) = good(inputs, records);
     for _ in 0..[0, 0, 1, 1, 2][inputs.below(5)] {
         damage(inputs, &mut file);
     }
@@ -185,4 +211,9 @@ pub fn file(inputs: &mut Inputs, tally: &mut Tally) {
         record(inputs, &file, offset, tally);
     }
     touches(inputs, &file, &buttons, tally);
+}
+
+fn any_number(inputs: &mut Inputs, most: usize) -> (Vec<u8>, Vec<Sizes>) {
+    let records = inputs.below(most);
+    good(inputs, records)
 }

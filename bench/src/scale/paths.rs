@@ -106,9 +106,9 @@ fn call(path: &mut Path, stream: &mut Stream, call: &Call, tally: &mut Tally) {
             Err(_) => untouched(path, &before),
         };
     let (name, refused) = match call {
-        Call::Outline(_) => ("calls: outline", "outlines refused"),
-        Call::Conic(..) => ("calls: conic", "conics refused"),
-        _ => ("calls: other", "others refused"),
+        Call::Outline(_) => ("outline calls", "outline calls refused"),
+        Call::Conic(..) => ("conic calls", "conic calls refused"),
+        _ => ("other calls", "other calls refused"),
     };
     tally.case(name, equal, input);
     if answer != 0 {
@@ -164,7 +164,7 @@ fn record(inputs: &mut Inputs, verbs: usize, floats: usize) -> Record {
 
 /// Lengths of the buffers: what the calls need from an empty record on and about it, or any.
 fn lengths(inputs: &mut Inputs, calls: &[Call]) -> (usize, usize) {
-    if inputs.one_in(2) {
+    if inputs.one_in(3) {
         let most = [(12, 40), (90, 280), (400, 1600), (1200, 4400)];
         let (verbs, floats) = inputs.pick(&most);
         return (inputs.below(verbs), inputs.below(floats));

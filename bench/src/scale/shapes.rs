@@ -64,9 +64,9 @@ pub fn made(inputs: &mut Inputs, tally: &mut Tally) {
             Ok(shape) => all_same(&lent, &shape_floats(shape)),
             Err(_) => kept(&lent, &before),
         };
-    tally.case("shapes", equal, input);
+    tally.case("shapes made", equal, input);
     let Ok(shape) = theirs else {
-        tally.count("of these refused", 1);
+        tally.count("shapes refused", 1);
         return;
     };
     let consistent = library::is_consistent(&sizes, &lent);
