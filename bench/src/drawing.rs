@@ -222,13 +222,14 @@ const BUTTON: Sizes = [
 ];
 
 /// ns per outline. `counted` is the library in buffers with room for the outline and not for the largest one,
-/// so that the need is counted first.
+/// so that the need is counted first; `outline_need` is the count alone, beside the same outlines of the Rust.
 fn outline(kind: &str, inputs: &[Sizes]) {
     let lent: Vec<Shape> = inputs.iter().map(made).collect();
     let written: Vec<_> = inputs.iter().map(written_shape::new).collect();
     let native: Vec<_> = inputs.iter().map(native_shape::new).collect();
     let mut path = Path::with_room(1035, 2074);
     let mut tight = Path::with_room(1034, 2073);
+    let mut need = [0; 2];
     let mut builder = written_shape::with_room(1035, 2074);
     let mut other = native_shape::with_room(1035, 2074);
     for (ours, theirs) in lent.iter().zip(&written) {
@@ -269,11 +270,18 @@ fn outline(kind: &str, inputs: &[Sizes]) {
                     black_box(&tight);
                 }
             },
+            &mut || {
+                for s in &lent {
+                    library::outline_need(s, &mut need);
+                    black_box(&need);
+                }
+            },
         ],
     );
-    let [library, written, std, counted] = times;
+    let [library, written, std, counted, count] = times;
     row("outline", kind, [library, written, std], "0.6; 1.0 to std");
     row("outline, need counted", kind, [counted, written, std], "");
+    row("outline_need", kind, [count, written, std], "");
 }
 
 fn outlines() {
