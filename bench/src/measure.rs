@@ -279,13 +279,13 @@ fn percent(x: f64) -> String {
     format!("{} %", figure(100.0 * x))
 }
 
-/// The classes of any shapes, and the most that outline and touch area are apart in each, by the longer side; where there is no such
-/// figure the class has a 1.
+/// The classes of any shapes, and what a run may find them apart at most, by the longer side: a quarter more than docs/DIFFERENCES.md
+/// has; where there is no such figure the class has a 1.
 const CLASSES: [(&str, f64); 6] = [
-    ("round corners", 1.0),
-    ("oval up to 1:16", 1.0),
-    ("oval up to 1:4096", 1.0),
-    ("oval up to 1:65536", 1.0),
+    ("round corners", 0.0022),
+    ("oval up to 1:16", 0.0022),
+    ("oval up to 1:4096", 0.0033),
+    ("oval up to 1:65536", 0.019),
     ("oval beyond that", 1.0),
     ("a side under 1/4096 of the greatest coordinate", 1.0),
 ];
@@ -331,33 +331,33 @@ fn part(r: &mut Random) -> f64 {
     r.within(0.1, 0.9)
 }
 
-/// Kinds of buttons, and the most that outline and touch area are apart, in itself and by the longer side: near the origin and far
-/// from it.
+/// Kinds of buttons, and what a run may find them apart at most, in itself and by the longer side, near the origin and far from it: a
+/// quarter more than docs/DIFFERENCES.md has.
 const KINDS: [(&str, fn(&mut Random) -> Button, [[f64; 2]; 2]); 9] = [
     (
         "one radius",
         |r| (sides(r), [[part(r); 2]; 4]),
-        [[1.0; 2]; 2],
+        [[0.12, 0.00064], [0.12, 0.00083]],
     ),
     (
         "one radius, square box",
         |r| ([r.within(10.0, 200.0); 2], [[part(r); 2]; 4]),
-        [[1.0; 2]; 2],
+        [[0.12, 0.00064], [0.14, 0.00089]],
     ),
     (
         "four radii",
         |r| (sides(r), [0; 4].map(|_| [part(r); 2])),
-        [[1.0; 2]; 2],
+        [[0.17, 0.00092], [0.17, 0.00097]],
     ),
     (
         "oval corners",
         |r| (sides(r), [0; 4].map(|_| [part(r), part(r)])),
-        [[1.0; 2]; 2],
+        [[0.17, 0.00095], [0.2, 0.00097]],
     ),
     (
         "square corners",
         |r| (sides(r), [[0.0; 2]; 4]),
-        [[1.0; 2]; 2],
+        [[3.9e-05, 2e-06], [0.00087, 5e-05]],
     ),
     (
         "two corners square",
@@ -365,13 +365,17 @@ const KINDS: [(&str, fn(&mut Random) -> Button, [[f64; 2]; 2]); 9] = [
             let round = [part(r); 2];
             (sides(r), [round, round, [0.0; 2], [0.0; 2]])
         },
-        [[1.0; 2]; 2],
+        [[0.16, 0.0009], [0.17, 0.0009]],
     ),
-    ("pill", |r| (sides(r), [[1.0; 2]; 4]), [[1.0; 2]; 2]),
+    (
+        "pill",
+        |r| (sides(r), [[1.0; 2]; 4]),
+        [[0.12, 0.00064], [0.14, 0.00065]],
+    ),
     (
         "disc",
         |r| ([r.within(10.0, 200.0); 2], [[1.0; 2]; 4]),
-        [[1.0; 2]; 2],
+        [[0.023, 0.00014], [0.027, 0.0006]],
     ),
     (
         "thin",
@@ -379,7 +383,7 @@ const KINDS: [(&str, fn(&mut Random) -> Button, [[f64; 2]; 2]); 9] = [
             let sides = [r.within(100.0, 1000.0), r.within(1.0, 4.0)];
             (sides, [[r.within(0.1, 1.0); 2]; 4])
         },
-        [[1.0; 2]; 2],
+        [[0.0052, 2.4e-05], [0.009, 6.4e-05]],
     ),
 ];
 
