@@ -145,7 +145,8 @@ fn main() {
                 source.name
             );
         }
-        modules += "}\n";
+        let panel = manifest.join("src/panel.rs");
+        modules += &format!("    #[path = {panel:?}]\n    pub mod panel;\n}}\n");
     }
     fs::write(out.join("original.rs"), modules).unwrap();
 }

@@ -2,13 +2,9 @@
 
 use crate::library;
 use crate::others::machine;
+use crate::scale::same;
 use oracle::ground;
 use oracle::random::Random;
-
-/// Equal bits, or a NaN both.
-fn same(a: f32, b: f32) -> bool {
-    a.to_bits() == b.to_bits() || (a.is_nan() && b.is_nan())
-}
 
 /// How many cases were compared and how many differ; the first few of those are printed.
 struct Count {

@@ -5,14 +5,16 @@
 use std::hint::black_box;
 use std::time::Instant;
 
+use oracle::panel_files;
 use oracle::random::Random;
 use oracle::vec2::Vec2;
 
-use crate::library::{self, Path};
+use crate::library::{self, Path, Shape, NOWHERE, RESULTS};
 use crate::others::{native_shape, shape_floats, written_path, written_shape};
-use crate::speed::print;
+use crate::speed::row;
 
 const ROUNDS: usize = 200;
+const FILE_ROUNDS: usize = 40;
 const SHAPES: usize = 256;
 const POINTS: usize = 16;
 /// Calls of a path before it is begun anew.
@@ -20,9 +22,17 @@ const LENGTH: usize = 64;
 const PATHS: usize = 16;
 
 /// One round of each in turn, again and again: the least time of each over `calls`.
-fn least(calls: usize, bodies: &mut [&mut dyn FnMut()]) -> Vec<f64> {
-    let mut times = vec![f64::INFINITY; bodies.len()];
-    for _ in 0..ROUNDS {
+fn least<const N: usize>(calls: usize, bodies: [&mut dyn FnMut(); N]) -> [f64; N] {
+    least_of(ROUNDS, calls, bodies)
+}
+
+fn least_of<const N: usize>(
+    rounds: usize,
+    calls: usize,
+    mut bodies: [&mut dyn FnMut(); N],
+) -> [f64; N] {
+    let mut times = [f64::INFINITY; N];
+    for _ in 0..rounds {
         for (time, body) in times.iter_mut().zip(bodies.iter_mut()) {
             let start = Instant::now();
             body();
@@ -80,8 +90,8 @@ const KINDS: [(&str, fn(&mut Random) -> Sizes); 4] = [
 ];
 
 /// The library's shape.
-fn made(s: &Sizes) -> [f32; library::SHAPE_FLOATS] {
-    let mut floats = [0.0; library::SHAPE_FLOATS];
+fn made(s: &Sizes) -> Shape {
+    let mut floats = [0.0; 89];
     assert_eq!(
         library::shape(s, &mut floats),
         0,
@@ -104,10 +114,10 @@ fn new(kind: &str, make: fn(&mut Random) -> Sizes) {
             "library and oracle differ"
         );
     }
-    let mut floats = [0.0; library::SHAPE_FLOATS];
+    let mut floats = [0.0; 89];
     let times = least(
         SHAPES,
-        &mut [
+        [
             &mut || {
                 for s in &inputs {
                     library::shape(s, &mut floats);
@@ -126,7 +136,7 @@ fn new(kind: &str, make: fn(&mut Random) -> Sizes) {
             },
         ],
     );
-    print("new", kind, &["library", "oracle", "std"], &times);
+    row("new", kind, times, "0.8");
 }
 
 /// A point in the middle of the box, near one of its corners, or beyond it.
@@ -164,7 +174,7 @@ fn near(r: &mut Random, low: f32, high: f32, from: f64, to: f64) -> f32 {
 fn contains(kind: &str, make: fn(&mut Random) -> Sizes) {
     let mut random = Random(8);
     let inputs: Vec<Sizes> = (0..SHAPES).map(|_| make(&mut random)).collect();
-    let lent: Vec<[f32; library::SHAPE_FLOATS]> = inputs.iter().map(made).collect();
+    let lent: Vec<Shape> = inputs.iter().map(made).collect();
     let written: Vec<_> = inputs.iter().map(written_shape::new).collect();
     let native: Vec<_> = inputs.iter().map(native_shape::new).collect();
     for (place, choose) in PLACES {
@@ -179,7 +189,7 @@ fn contains(kind: &str, make: fn(&mut Random) -> Sizes) {
         let (mut a, mut b, mut c) = (0u64, 0u64, 0u64);
         let times = least(
             points.len(),
-            &mut [
+            [
                 &mut || {
                     a = 0;
                     for (k, (x, y)) in points.iter().enumerate() {
@@ -202,7 +212,7 @@ fn contains(kind: &str, make: fn(&mut Random) -> Sizes) {
         );
         black_box((a, b, c));
         let name = format!("{kind}, {place}");
-        print("contains", &name, &["library", "oracle", "std"], &times);
+        row("contains", &name, times, "1.0");
     }
 }
 
@@ -212,18 +222,19 @@ const BUTTON: Sizes = [
 ];
 
 /// ns per outline. `counted` is the library in buffers with room for the outline and not for the largest one,
-/// so that the need is counted first.
+/// so that the need is counted first; `outline_need` is the count alone, beside the same outlines of the Rust.
 fn outline(kind: &str, inputs: &[Sizes]) {
-    let lent: Vec<[f32; library::SHAPE_FLOATS]> = inputs.iter().map(made).collect();
+    let lent: Vec<Shape> = inputs.iter().map(made).collect();
     let written: Vec<_> = inputs.iter().map(written_shape::new).collect();
     let native: Vec<_> = inputs.iter().map(native_shape::new).collect();
     let mut path = Path::with_room(1035, 2074);
     let mut tight = Path::with_room(1034, 2073);
+    let mut need = [0; 2];
     let mut builder = written_shape::with_room(1035, 2074);
     let mut other = native_shape::with_room(1035, 2074);
     for (ours, theirs) in lent.iter().zip(&written) {
         path.clear();
-        assert_eq!(path.add_to(ours), 0, "room for the largest outline");
+        assert_eq!(path.lent().add(ours), 0, "room for the largest outline");
         written_shape::outline(theirs, &mut builder);
         assert!(
             written_path::same(&builder, &path),
@@ -232,11 +243,11 @@ fn outline(kind: &str, inputs: &[Sizes]) {
     }
     let times = least(
         inputs.len(),
-        &mut [
+        [
             &mut || {
                 for s in &lent {
                     path.clear();
-                    path.add_to(s);
+                    path.lent().add(s);
                     black_box(&path);
                 }
             },
@@ -255,18 +266,22 @@ fn outline(kind: &str, inputs: &[Sizes]) {
             &mut || {
                 for s in &lent {
                     tight.clear();
-                    tight.add_to(s);
+                    tight.lent().add(s);
                     black_box(&tight);
+                }
+            },
+            &mut || {
+                for s in &lent {
+                    library::outline_need(s, &mut need);
+                    black_box(&need);
                 }
             },
         ],
     );
-    print(
-        "outline",
-        kind,
-        &["library", "oracle", "std", "counted"],
-        &times,
-    );
+    let [library, written, std, counted, count] = times;
+    row("outline", kind, [library, written, std], "0.6; 1.0 to std");
+    row("outline, need counted", kind, [counted, written, std], "");
+    row("outline_need", kind, [count, written, std], "");
 }
 
 fn outlines() {
@@ -334,11 +349,11 @@ fn build<T>(
     let mut builder = written_path::with_room(verbs, points);
     let times = least(
         PATHS * LENGTH,
-        &mut [
+        [
             &mut || {
                 for (start, calls) in inputs {
                     path.clear();
-                    path.move_to(start.x, start.y);
+                    path.lent().move_to(start.x, start.y);
                     calls.iter().for_each(|c| ours(&mut path, c));
                     black_box(&path);
                 }
@@ -357,7 +372,9 @@ fn build<T>(
         written_path::same(&builder, &path),
         "library and oracle differ"
     );
-    print(name, how, &["library", "oracle"], &times);
+    // of the functions that were written out the builder calls none: the two builds of the Rust are one
+    let [library, rust] = times;
+    row(name, how, [library, rust, rust], "1.0");
 }
 
 fn lines() {
@@ -366,7 +383,7 @@ fn lines() {
         "line_to",
         &paths(|r, _| vec(r), |to| *to),
         |path, p| {
-            path.line_to(p.x, p.y);
+            path.lent().line_to(p.x, p.y);
         },
         |builder, p| written_path::line_to(builder, *p),
     );
@@ -378,10 +395,62 @@ fn conics(quads: usize) {
         "conic_to",
         &paths(|r, pen| conic(r, pen, quads), |c| c.1),
         |path, (ctrl, to, weight)| {
-            path.conic_to(ctrl.x, ctrl.y, to.x, to.y, *weight);
+            path.lent().conic_to(ctrl.x, ctrl.y, to.x, to.y, *weight);
         },
         |builder, c| written_path::conic_to(builder, *c),
     );
+}
+
+/// The shapes of a panel file and as many touches in the order in which a film is scanned.
+fn by_rows(file: &[u8]) -> Vec<u8> {
+    let mut rest = file;
+    let mut made = Vec::new();
+    while let [low, high, ..] = *rest {
+        let (record, next) = rest.split_at(4 + u16::from_le_bytes([low, high]) as usize);
+        if record.len() == 52 {
+            made.extend(record);
+        }
+        rest = next;
+    }
+    for k in 0..42 * 65 {
+        let (x, y) = ((k % 65) as f32, (k / 65) as f32);
+        made.extend([8, 0, 2, 0]);
+        for v in [x * 1510.0 / 64.0 - 5.0, y * 1060.0 / 41.0 - 5.0] {
+            made.extend(v.to_le_bytes());
+        }
+    }
+    made
+}
+
+/// ns per touch, where each touch of a file goes: the records read and the shapes made in the same time.
+fn all_touches(how: &str, file: &[u8]) {
+    let mut results = [0; RESULTS];
+    let mut count = [0];
+    assert_eq!(library::touch_all(file, &mut results, &mut count), 0);
+    let (mut ours, mut theirs, mut native) = (0, Vec::new(), Vec::new());
+    let times = least_of(
+        FILE_ROUNDS,
+        count[0] as usize,
+        [
+            &mut || {
+                ours = library::touch_all(file, &mut results, &mut count);
+                black_box(&results);
+            },
+            &mut || theirs = written_shape::all_touches(file),
+            &mut || native = native_shape::all_touches(file),
+        ],
+    );
+    let theirs = theirs.iter().map(|p| p.map_or(NOWHERE, |i| i as u32));
+    let equal = ours == 0 && theirs.eq(results[..count[0] as usize].iter().copied());
+    assert!(equal, "library and oracle differ");
+    black_box(native);
+    row("all touches", how, times, "");
+}
+
+fn touches() {
+    let anywhere = panel_files::largest();
+    all_touches("anywhere", &anywhere);
+    all_touches("by rows", &by_rows(&anywhere));
 }
 
 pub fn run(names: &[&str]) {
@@ -404,5 +473,8 @@ pub fn run(names: &[&str]) {
     }
     if asked("conic_to") {
         [1, 8, 32].into_iter().for_each(conics);
+    }
+    if asked("touches") {
+        touches();
     }
 }

@@ -64,22 +64,15 @@ macro_rules! shapes {
     ($name:ident, $variant:ident) => {
         pub mod $name {
             use oracle::vec2::Vec2;
-            use oracle::$variant::path::{access, PathBuilder, Rect};
-            use oracle::$variant::superellipse::{CornerRadii, RoundSuperellipse};
+            use oracle::$variant::panel;
+            use oracle::$variant::path::{access, PathBuilder};
+            use oracle::$variant::superellipse::access::made_of;
+            use oracle::$variant::superellipse::RoundSuperellipse;
 
             /// min, max, and the radii top left, top right, bottom left, bottom right.
             #[inline(never)]
             pub fn new(s: &[f32; 12]) -> RoundSuperellipse {
-                let point = |k: usize| Vec2::new(s[2 * k], s[2 * k + 1]);
-                RoundSuperellipse::new(
-                    Rect::new(point(0), point(1)),
-                    CornerRadii {
-                        top_left: point(2),
-                        top_right: point(3),
-                        bottom_left: point(4),
-                        bottom_right: point(5),
-                    },
-                )
+                made_of(s)
             }
 
             /// The outline, into a builder that is cleared first.
@@ -90,6 +83,12 @@ macro_rules! shapes {
             }
 
             pub use access::with_room;
+
+            /// Where each touch of a good panel file goes.
+            #[inline(never)]
+            pub fn all_touches(file: &[u8]) -> Vec<Option<usize>> {
+                panel::places(&panel::records(file).unwrap_or_default())
+            }
 
             #[inline(never)]
             pub fn contains(shape: &RoundSuperellipse, x: f32, y: f32) -> bool {
@@ -113,6 +112,7 @@ pub fn shape_floats(shape: &oracle::written::superellipse::RoundSuperellipse) ->
 /// The original's builder, whose vectors have their room reserved.
 pub mod written_path {
     use crate::library::Path;
+    use crate::scale;
     use oracle::vec2::Vec2;
     use oracle::written::path::access;
 
@@ -148,9 +148,10 @@ pub mod written_path {
         let points = access::points(builder).iter().flat_map(|p| [p.x, p.y]);
         verbs
             .map(access::verb_number)
-            .eq(path.verbs().iter().copied())
+            .eq(path.held_verbs().iter().copied())
+            && 2 * access::points(builder).len() == path.held_floats().len()
             && points
-                .map(f32::to_bits)
-                .eq(path.points().iter().map(|x| x.to_bits()))
+                .zip(path.held_floats())
+                .all(|(a, b)| scale::same(a, *b))
     }
 }

@@ -1,6 +1,7 @@
 //! ns per call of the library's functions, of the oracle's written-out ones and of the platform's,
 //! measured in turns in one run, the least of many rounds each. A chain is a run of calls each of
-//! which waits for the one before, as in a solver; otherwise the calls may overlap.
+//! which waits for the one before, as in a solver; otherwise the calls may overlap. For `narrow` and `sqrt` both of the Rust's are
+//! the machine's instruction.
 
 use std::hint::black_box;
 use std::time::Instant;
@@ -37,23 +38,28 @@ fn overlapping<T: Copy>(inputs: &[T], call: impl Fn(T) -> u64) -> f64 {
     time.as_nanos() as f64 / inputs.len() as f64
 }
 
-pub fn print(name: &str, how: &str, labels: &[&str], least: &[f64]) {
-    print!("{name:<8} {how:<19}");
-    for (label, ns) in labels.iter().zip(least) {
-        print!("  {label} {ns:6.2}");
-    }
-    for (label, ns) in labels.iter().zip(least).skip(1) {
-        print!("  /{label} {:.2}", least[0] / ns);
-    }
-    println!();
+/// A row of the table: the library, the Rust on document 01's written-out functions and on the platform's.
+pub fn row(name: &str, how: &str, [library, written, std]: [f64; 3], goal: &str) {
+    let digits = if library < 100.0 { 1 } else { 0 };
+    print!("| {name} | {how} | {library:.digits$} | {written:.digits$} | {std:.digits$} ");
+    println!(
+        "| {:.2} | {:.2} | {goal} |",
+        library / written,
+        library / std
+    );
+}
+
+pub fn head() {
+    println!("ns per call; ratios are the library's time over the other's\n");
+    println!("| function | | library | Rust, written-out | Rust, std | to written-out | to std | goal, to written-out |");
+    println!("|---|---|---|---|---|---|---|---|");
 }
 
 /// The least of the rounds of each function, taken in turns.
 macro_rules! compare {
-    ($names:expr, $name:literal, $inputs:expr, $tie:expr, $($label:literal => $call:expr),+ $(,)?) => {{
+    ($names:expr, $name:literal, $goal:literal, $inputs:expr, $tie:expr, $($call:expr),+ $(,)?) => {{
         if $names.is_empty() || $names.contains(&$name) {
             let inputs = $inputs;
-            let labels = [$($label),+];
             let mut calls = [f64::INFINITY; 3];
             let mut chain = [f64::INFINITY; 3];
             for _ in 0..ROUNDS {
@@ -65,8 +71,8 @@ macro_rules! compare {
                 )+
                 let _ = k;
             }
-            print($name, "calls", &labels, &calls);
-            print($name, "chain", &labels, &chain);
+            row($name, "calls", calls, $goal);
+            row($name, "chain", chain, $goal);
         }
     }};
 }
@@ -89,27 +95,64 @@ pub fn run(names: &[&str]) {
     let tie = |x: f32, last: u64| f32::from_bits(x.to_bits() ^ (last & none) as u32);
     let tie_wide = |x: f64, last: u64| f64::from_bits(x.to_bits() ^ (last & none));
     let tie_pair = |(a, b): (f32, f32), last: u64| (tie(a, last), b);
-    println!("ns per call, and the library's time as a multiple of each other's");
-    compare!(names, "narrow", inputs(|r| r.within(-2000.0, 2000.0)), tie_wide,
-        "library" => |x| bits(library::narrow(x)),
-        "machine" => |x| bits(machine::narrow(x)));
-    compare!(names, "sqrt", inputs(|r| r.within(0.0, 4e6) as f32), tie,
-        "library" => |x| bits(library::sqrt(x)),
-        "machine" => |x| bits(machine::sqrt(x)));
-    compare!(names, "pow", inputs(|r| (r.within(0.0, 1.0) as f32, r.within(2.0, 14.0) as f32)), tie_pair,
-        "library" => |(b, y)| bits(library::pow(b, y)),
-        "oracle" => |(b, y)| bits(written::pow(b, y)),
-        "std" => |(b, y)| bits(platform::pow(b, y)));
-    compare!(names, "sin_cos", inputs(|r| r.within(-8.0, 8.0) as f32), tie,
-        "library" => |x| both(library::sin_cos(x)),
-        "oracle" => |x| both(written::sin_cos(x)),
-        "std" => |x| both(platform::sin_cos(x)));
-    compare!(names, "tan", inputs(|r| r.within(-1.0, 1.0) as f32), tie,
-        "library" => |x| bits(library::tan(x)),
-        "oracle" => |x| bits(written::tan(x)),
-        "std" => |x| bits(platform::tan(x)));
-    compare!(names, "atan2", inputs(|r| (r.within(-2e3, 2e3) as f32, r.within(-2e3, 2e3) as f32)), tie_pair,
-        "library" => |(y, x)| bits(library::atan2(y, x)),
-        "oracle" => |(y, x)| bits(written::atan2(y, x)),
-        "std" => |(y, x)| bits(platform::atan2(y, x)));
+    compare!(
+        names,
+        "narrow",
+        "2",
+        inputs(|r| r.within(-2000.0, 2000.0)),
+        tie_wide,
+        |x| bits(library::narrow(x)),
+        |x| bits(machine::narrow(x)),
+        |x| bits(machine::narrow(x))
+    );
+    compare!(
+        names,
+        "sqrt",
+        "2",
+        inputs(|r| r.within(0.0, 4e6) as f32),
+        tie,
+        |x| bits(library::sqrt(x)),
+        |x| bits(machine::sqrt(x)),
+        |x| bits(machine::sqrt(x))
+    );
+    compare!(
+        names,
+        "pow",
+        "1.0",
+        inputs(|r| (r.within(0.0, 1.0) as f32, r.within(2.0, 14.0) as f32)),
+        tie_pair,
+        |(b, y)| bits(library::pow(b, y)),
+        |(b, y)| bits(written::pow(b, y)),
+        |(b, y)| bits(platform::pow(b, y))
+    );
+    compare!(
+        names,
+        "sin_cos",
+        "1.0",
+        inputs(|r| r.within(-8.0, 8.0) as f32),
+        tie,
+        |x| both(library::sin_cos(x)),
+        |x| both(written::sin_cos(x)),
+        |x| both(platform::sin_cos(x))
+    );
+    compare!(
+        names,
+        "tan",
+        "1.0",
+        inputs(|r| r.within(-1.0, 1.0) as f32),
+        tie,
+        |x| bits(library::tan(x)),
+        |x| bits(written::tan(x)),
+        |x| bits(platform::tan(x))
+    );
+    compare!(
+        names,
+        "atan2",
+        "1.0",
+        inputs(|r| (r.within(-2e3, 2e3) as f32, r.within(-2e3, 2e3) as f32)),
+        tie_pair,
+        |(y, x)| bits(library::atan2(y, x)),
+        |(y, x)| bits(written::atan2(y, x)),
+        |(y, x)| bits(platform::atan2(y, x))
+    );
 }

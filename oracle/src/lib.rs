@@ -3,7 +3,13 @@
 //! speed alone.
 
 pub mod ground;
+pub mod panel_files;
 pub mod random;
+pub mod shapes;
+pub mod stream;
 pub mod vec2;
+pub mod words;
 
 include!(concat!(env!("OUT_DIR"), "/original.rs"));
+
+pub use written::panel;

@@ -5,6 +5,7 @@
 //!        oracle replay-lists       calls, streams and points for the program `replay`
 //!        oracle replay             the answers to such a text on standard input
 //!        oracle fascia             the report on the panel file on standard input
+//!        oracle fascia-native      the same on the platform's functions, for comparison of speed alone
 //!        oracle inspect            of each shape of the panel file on standard input, whether outline and touch keep together
 //!        oracle panel-files        panel files, good and damaged, for the program `panels`
 //!        oracle panels             the reports on such files on standard input
@@ -12,16 +13,13 @@
 
 use std::io::{self, BufRead, Read, Write};
 
+use oracle::{native, panel, panel_files, shapes, stream, words};
+
 mod answers;
 mod outline_lists;
-mod panel;
-mod panel_files;
 mod replay;
 mod replay_lists;
-mod shapes;
-mod stream;
 mod vectors;
-mod words;
 
 fn print_lines(out: &mut impl Write, lines: Vec<String>) -> io::Result<()> {
     for line in lines {
@@ -70,12 +68,13 @@ fn main() -> io::Result<()> {
         ["replay-lists"] => print_lines(&mut out, replay_lists::lists()),
         ["replay"] => print_replay(&mut out),
         ["fascia"] => print_lines(&mut out, panel::report(&input()?)),
+        ["fascia-native"] => print_lines(&mut out, native::panel::report(&input()?)),
         ["inspect"] => print_lines(&mut out, panel::inspection(&input()?)),
         ["panel-files"] => print_lines(&mut out, panel_files::lines()),
         ["panels"] => print_lines(&mut out, panel_files::reports(&input()?)),
         ["largest-panel"] => out.write_all(&panel_files::largest()),
         _ => {
-            eprintln!("usage: oracle vectors | answers | shapes | shape-fields | replay-lists | replay | fascia | inspect | panel-files | panels | largest-panel");
+            eprintln!("usage: oracle vectors | answers | shapes | shape-fields | replay-lists | replay | fascia | fascia-native | inspect | panel-files | panels | largest-panel");
             std::process::exit(2);
         }
     }?;

@@ -1,21 +1,22 @@
 //! Document 01's panel file and its program `fascia`, and the program `inspect`, over the original.
+//! Stands in both variants.
 
-use oracle::vec2::Vec2;
-use oracle::written::path::{access, PathBuilder};
-use oracle::written::superellipse::{access::shape_floats, RoundSuperellipse};
-
-use crate::stream::{shape, Refusal};
+use super::path::{access, PathBuilder};
+use super::superellipse::access::{made_of, shape_floats};
+use super::superellipse::RoundSuperellipse;
+use crate::stream::{limits, Refusal};
+use crate::vec2::Vec2;
 
 /// The longest file.
 pub const LIMIT: usize = 65_536;
 
 /// What the original makes of a button's floats.
-struct Button {
-    floats: [f32; 12],
-    shape: Result<RoundSuperellipse, Refusal>,
+pub struct Button {
+    pub floats: [f32; 12],
+    pub shape: Result<RoundSuperellipse, Refusal>,
 }
 
-enum Record {
+pub enum Record {
     Button(Button),
     Touch(Vec2),
 }
@@ -25,14 +26,14 @@ fn floats<const N: usize>(payload: &[u8]) -> [f32; N] {
 }
 
 /// The record in front and how many bytes it takes, None where it is broken.
-fn first(file: &[u8]) -> Option<(Record, usize)> {
+pub fn first(file: &[u8]) -> Option<(Record, usize)> {
     let number = |i: usize| Some(u16::from_le_bytes([*file.get(i)?, *file.get(i + 1)?]));
     let (len, kind) = (number(0)? as usize, number(2)?);
     let payload = file.get(4..4 + len)?;
     let record = match (kind, len) {
         (1, 48) => {
             let floats = floats(payload);
-            let shape = shape(&floats);
+            let shape = limits(&floats).map(|()| made_of(&floats));
             Record::Button(Button { floats, shape })
         }
         (2, 8) => {
@@ -45,7 +46,7 @@ fn first(file: &[u8]) -> Option<(Record, usize)> {
 }
 
 /// The records, or the offset of the first that is broken.
-fn records(file: &[u8]) -> Result<Vec<Record>, usize> {
+pub fn records(file: &[u8]) -> Result<Vec<Record>, usize> {
     if file.len() > LIMIT {
         return Err(0);
     }
@@ -60,7 +61,7 @@ fn records(file: &[u8]) -> Result<Vec<Record>, usize> {
 }
 
 /// Where each touch goes: each shape is made once.
-fn places(records: &[Record]) -> Vec<Option<usize>> {
+pub fn places(records: &[Record]) -> Vec<Option<usize>> {
     let shapes = records.iter().filter_map(|r| match r {
         Record::Button(button) => Some(&button.shape),
         Record::Touch(_) => None,
@@ -120,7 +121,7 @@ pub fn report(file: &[u8]) -> Vec<String> {
 }
 
 /// Whether no center lies outside the bounds, a NaN counting as outside, and every point of the outline is finite.
-fn is_consistent(bounds: &[f32], shape: &RoundSuperellipse) -> bool {
+pub fn is_consistent(bounds: &[f32], shape: &RoundSuperellipse) -> bool {
     let within = |i: usize, x: f32| bounds[i] <= x && x <= bounds[i + 2];
     let (quadrants, _) = shape_floats(shape);
     let centered = quadrants.iter().all(|q| within(0, q[0]) && within(1, q[1]));

@@ -1,7 +1,7 @@
 //! Panel files, good and damaged, as a text that the program `panels` reads (docs/ORACLE.md): the
 //! same at every run.
 
-use oracle::random::Random;
+use crate::random::Random;
 
 use crate::panel;
 use crate::shapes::{cornered, refused_shapes, shapes, uniform, Shape};

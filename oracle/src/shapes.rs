@@ -1,9 +1,9 @@
 //! Shapes at which a rule of the original changes, and points on and about their outlines: the same
 //! at every run.
 
-use oracle::random::Random;
-use oracle::vec2::Vec2;
-use oracle::written::superellipse::{access, RoundSuperellipse};
+use crate::random::Random;
+use crate::vec2::Vec2;
+use crate::written::superellipse::{access, RoundSuperellipse};
 
 use crate::stream;
 use crate::words::{f32_word, parse_f32, words};

@@ -1,10 +1,10 @@
 //! A stream over lent buffers, by document 01: the original's builder makes what a call adds, the
 //! limits of the buffers, the refusals, the reader and the box are document 01's own.
 
-use oracle::vec2::Vec2;
-use oracle::written::path::access::{self, Conic};
-use oracle::written::path::{PathBuilder, Rect, Verb};
-use oracle::written::superellipse::{CornerRadii, RoundSuperellipse};
+use crate::vec2::Vec2;
+use crate::written::path::access::{self, Conic};
+use crate::written::path::{PathBuilder, Verb};
+use crate::written::superellipse::{access::made_of, RoundSuperellipse};
 
 use crate::words::f32_word;
 
@@ -48,8 +48,8 @@ pub fn point_words(p: Vec2) -> String {
     format!("{} {}", f32_word(p.x), f32_word(p.y))
 }
 
-/// The shape of min, max and the radii, or document 01's refusal 2, 3 or 4.
-pub fn shape(f: &[f32; 12]) -> Result<RoundSuperellipse, Refusal> {
+/// Document 01's refusals 2, 3 and 4 of min, max and the radii.
+pub fn limits(f: &[f32; 12]) -> Result<(), Refusal> {
     let refused = |n: u32| Err(format!("refused {n}"));
     if f.iter().any(|x| !x.is_finite() || x.abs() > 16384.0) {
         return refused(2);
@@ -60,14 +60,12 @@ pub fn shape(f: &[f32; 12]) -> Result<RoundSuperellipse, Refusal> {
     if f[2] < f[0] || f[3] < f[1] {
         return refused(4);
     }
-    let p = |i: usize| Vec2::new(f[i], f[i + 1]);
-    let radii = CornerRadii {
-        top_left: p(4),
-        top_right: p(6),
-        bottom_left: p(8),
-        bottom_right: p(10),
-    };
-    Ok(RoundSuperellipse::new(Rect::new(p(0), p(2)), radii))
+    Ok(())
+}
+
+/// The shape of min, max and the radii, or its refusal.
+pub fn shape(f: &[f32; 12]) -> Result<RoundSuperellipse, Refusal> {
+    limits(f).map(|()| made_of(f))
 }
 
 impl Record {

@@ -1,7 +1,7 @@
 //! Stands inside the original's module `superellipse`: its private functions, and its records as
 //! plain floats in the order of their fields.
 
-use super::{CornerRadii, Octant, Placement, Quadrant, RoundSuperellipse};
+use super::{CornerRadii, Octant, Placement, Quadrant, Rect, RoundSuperellipse};
 use crate::vec2::Vec2;
 
 /// offset, se_a, se_n, circle_start, circle_center, circle_max_angle
@@ -65,6 +65,18 @@ pub fn shape(f: &[QuadrantFloats; 4], all_corners_same: bool) -> RoundSuperellip
 pub fn shape_floats(s: &RoundSuperellipse) -> ([QuadrantFloats; 4], bool) {
     let quadrants = [&s.top_right, &s.bottom_right, &s.bottom_left, &s.top_left];
     (quadrants.map(quadrant_floats), s.all_corners_same)
+}
+
+/// The shape of min, max, and the radii top left, top right, bottom left, bottom right.
+pub fn made_of(f: &[f32; 12]) -> RoundSuperellipse {
+    let p = |i: usize| Vec2::new(f[i], f[i + 1]);
+    let radii = CornerRadii {
+        top_left: p(4),
+        top_right: p(6),
+        bottom_left: p(8),
+        bottom_right: p(10),
+    };
+    RoundSuperellipse::new(Rect::new(p(0), p(2)), radii)
 }
 
 pub fn all_same(radii: &CornerRadii) -> bool {
