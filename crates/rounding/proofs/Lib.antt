@@ -1,4 +1,4 @@
--- What rounding means has these proofs: Meets proves the list of specs/Meets.antt, Distance what `Closer` says, and the others lead there.
+-- What rounding means has these proofs: Meets proves the list of specs/Meets.antt, Distance what `Closer` says, Relative how far rounding moves a number, and the others lead there.
 pub mod Numbers
 pub mod Distance
 pub mod Neighbours
@@ -10,3 +10,4 @@ pub mod LocatedRounded
 pub mod Unique
 pub mod Rounds
 pub mod Meets
+pub mod Relative

@@ -52,7 +52,7 @@ module _ (f : Format) (num den : ℕ) (D : 0 < den) where
   twice-middle : (n / u * 2 ^ k + suc (n / u) * 2 ^ k) * den ≡ 2 * (n / u * u) + u
   twice-middle = add-mul (n / u * 2 ^ k) (suc (n / u) * 2 ^ k) den ∙ let a = by-unit (n / u) in let b = by-unit (suc (n / u)) in let c = suc-mul (n / u) u in omega arith
 
-  fraction-located : Located f (fraction num den) (n / u) k (compare (n % u * 2) u)
+  pub fraction-located : Located f (fraction num den) (n / u) k (compare (n % u * 2) u)
   fraction-located = record {
     small = subst (λ (q : ℕ). q < 2 ^ prec f) cut (kept-lt (prec f) (n / den));
     full = subst (λ (q : ℕ). (hid f ≤ q) ⊎ (k ≡ 0)) cut (kept-full (prec f) (n / den) (two-le-pos (prec f) (two f)));
@@ -89,7 +89,7 @@ module _ (f : Format) (num den : ℕ) (D : 0 < den) where
   twice-middle-root : q * 2 ^ p + suc q * 2 ^ p ≡ (2 * q + 1) * 2 ^ p
   twice-middle-root = sym (add-mul q (suc q) (2 ^ p)) ∙ ap (λ (z : ℕ). z * 2 ^ p) (omega arith)
 
-  root-located : Located f (root num den) q p (order f num den)
+  pub root-located : Located f (root num den) q p (order f num den)
   unfolding whole dropped order
   root-located = record {
     small = kept-lt (prec f) (whole f num den);
