@@ -3,3 +3,5 @@ pub mod Halving
 pub mod Tiling
 pub mod Bits
 pub mod Whole
+pub mod Margins
+pub mod Near

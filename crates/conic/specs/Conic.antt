@@ -48,6 +48,12 @@ quadMid c =
     let sum = addOf (addOf (c .from) (scaleOf (c .ctrl) two)) (c .to) in
     scaleOf sum quarter
 
+-- of two squared lengths, the length of d is at most a thousandth of the length of c, which is above 0
+unfoldable pub nearOf : Float → Float → Bool
+nearOf d c =
+    let chord = sqrtOf binary32 c in
+    cond (lt zero chord) (le (sqrtOf binary32 d) (mul binary32 thousandth chord)) false
+
 -- flat enough for one quad: the weight is near 1, or the two middles are near each other, measured by a chord above 0
 unfoldable pub flatOf : Conic → Bool
 flatOf c =

@@ -3,7 +3,7 @@
 ghost use mathlib.Core.Path.{_≡_};
 ghost use Prim.Native.Nat.{ℕ, _≤_};
 ghost use lib.ListN.{length};
-ghost use Rattle.conic.specs.Conic.{isLine, lowerOf, conicMid, quadMid, flatOf, splitOf};
+ghost use Rattle.conic.specs.Conic.{isLine, lowerOf, conicMid, quadMid, nearOf, flatOf, splitOf};
 ghost use Rattle.conic.specs.Halving.{halve, countOf};
 use geometry::Point;
 
@@ -74,6 +74,35 @@ fn quad_mid(c: Conic) -> Point
     geometry::scale(sum, 0.25)
 }
 
+// Whether the root of d is at most a thousandth of the root of c, which is above 0.
+fn by_roots(d: f32, c: f32) -> bool
+    ensures { λ r. ⌜ r ≡ nearOf d c ⌝ }
+{
+    let chord = ieee::sqrt(c);
+    if chord > 0.0 {
+        return ieee::sqrt(d) <= 0.001 * chord;
+    }
+    false
+}
+
+// The same: the roots and their product are each rounded by less than a part in 2^23, so they decide
+// only where d is within two parts in a million of a millionth of c, or c is near 0.
+fn is_near(d: f32, c: f32) -> bool
+    ensures { λ r. ⌜ r ≡ nearOf d c ⌝ }
+{
+    if 1e-30 < c {
+        if 1.000002e-6 * c < d {
+            return false;
+        }
+        if 0.0 <= d {
+            if d <= 9.99998e-7 * c {
+                return true;
+            }
+        }
+    }
+    by_roots(d, c)
+}
+
 // Whether the quad with the same control and target is near enough to the conic.
 pub fn is_flat(c: Conic) -> bool
     ensures { λ r. ⌜ r ≡ flatOf c ⌝ }
@@ -81,11 +110,9 @@ pub fn is_flat(c: Conic) -> bool
     if ieee::abs(c.weight - 1.0) <= 0.001 {
         return true;
     }
-    let chord = geometry::length(geometry::sub(c.to, c.from));
-    if chord > 0.0 {
-        return geometry::length(geometry::sub(conic_mid(c), quad_mid(c))) <= 0.001 * chord;
-    }
-    false
+    let chord = geometry::length_squared(geometry::sub(c.to, c.from));
+    let distance = geometry::length_squared(geometry::sub(conic_mid(c), quad_mid(c)));
+    is_near(distance, chord)
 }
 
 // Both halves of a conic, at its middle parameter.
