@@ -1,4 +1,4 @@
--- Laws of halving, and of lists of pieces that tile.
+-- Laws of halving, of lists of pieces that tile, and of lengths compared without roots.
 pub mod Halving
 pub mod Tiling
 pub mod Bits

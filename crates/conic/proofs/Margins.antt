@@ -1,7 +1,7 @@
 -- The inequalities that decide without roots, over numbers alone. h, e and l are 2 ^ 23, 2 ^ 23 + 1 and 2 ^ 149 where they are used. Assumes nothing.
 use mathlib.Core.Path.{_≡_, sym, ap, _∙_}
 use Prim.Native.Nat.{ℕ, _*_, _≤_, _<_}
-use native.Mathlib.Nat.{le-trans, le-of-eq, mul-comm, mul-assoc, mul-left-comm, mul-right-comm, mul-mul-mul-comm, mul-le-mul, mul-le-mul-left, mul-le-mul-right, le-of-mul-le-mul-left, le-of-mul-le-mul-right}
+use native.Mathlib.Nat.{le-trans, le-of-eq, mul-comm, mul-assoc, mul-left-comm, mul-right-comm, mul-mul-mul-comm, mul-le-mul-left, mul-le-mul-right, le-of-mul-le-mul-left, le-of-mul-le-mul-right}
 use lib.Ieee.Positive.{through}
 use Rattle.ieee.proofs.Isqrt.{square-le}
 
@@ -12,7 +12,7 @@ round-trip n d m c x y p q r s u v j k N a b f g =
     let b' : x * r * (q * d * (c * (u * j))) ≤ s * y * (q * d * (c * (u * j))) = mul-le-mul-right (q * d * (c * (u * j))) b in
     let f' : y * (u * c) * (s * q * (d * j)) ≤ m * v * (s * q * (d * j)) = mul-le-mul-right (s * q * (d * j)) f in
     let g' : m * d * j * (v * s * q) ≤ k * (n * c) * (v * s * q) = mul-le-mul-right (v * s * q) g in
-    let e0 : n * c * (p * r * u * j) ≡ n * p * (c * (r * u * j)) = simp (mul-assoc, mul-comm, mul-left-comm) in
+    let e0 : n * c * (p * r * u * j) ≡ n * p * (c * (r * u * j)) = simp (mul-assoc, mul-left-comm) in
     let e1 : x * (q * d) * (c * (r * u * j)) ≡ x * r * (q * d * (c * (u * j))) = simp (mul-assoc, mul-comm, mul-left-comm) in
     let e2 : s * y * (q * d * (c * (u * j))) ≡ y * (u * c) * (s * q * (d * j)) = simp (mul-assoc, mul-comm, mul-left-comm) in
     let e3 : m * v * (s * q * (d * j)) ≡ m * d * j * (v * s * q) = simp (mul-assoc, mul-comm, mul-left-comm) in
@@ -71,7 +71,7 @@ small-product n d a b t m g l D f i =
 pub small-root : (n d a b s e p t g : ℕ) → 0 < d → a * d ≤ n * b → n * p ≤ s * e * (s * e) * d → t * s ≤ g → a * p * (t * t) ≤ g * g * (e * e) * b
 small-root n d a b s e p t g D f i j =
     let w : a * p * (t * t) * d ≡ a * d * (p * (t * t)) = simp (mul-assoc, mul-comm, mul-left-comm) in
-    let x : n * b * (p * (t * t)) ≡ n * p * (b * (t * t)) = simp (mul-assoc, mul-comm, mul-left-comm) in
+    let x : n * b * (p * (t * t)) ≡ n * p * (b * (t * t)) = simp (mul-assoc, mul-left-comm) in
     let y : s * e * (s * e) * d * (b * (t * t)) ≡ t * s * (t * s) * (e * e * b * d) = simp (mul-assoc, mul-comm, mul-left-comm) in
     let z : g * g * (e * e * b * d) ≡ g * g * (e * e) * b * d = simp (mul-assoc, mul-comm, mul-left-comm) in
     le-of-mul-le-mul-right

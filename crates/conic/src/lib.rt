@@ -85,8 +85,8 @@ fn by_roots(d: f32, c: f32) -> bool
     false
 }
 
-// The same: the roots and their product are each rounded by less than a part in 2^23, so they decide
-// only where d is within two parts in a million of a millionth of c, or c is near 0.
+// The same. The roots and the product are each off by a part in 2^23 at most, so they can decide only
+// where d is within two parts in a million of a millionth of c; near 0 that bound fails.
 fn is_near(d: f32, c: f32) -> bool
     ensures { λ r. ⌜ r ≡ nearOf d c ⌝ }
 {
