@@ -8,8 +8,7 @@ use native.Mathlib.Numerals.{sub-one}
 use native.Mathlib.Omega.{arith}
 use lib.ListN.{length, length-append}
 use Rattle.conic.specs.declared.Conic.{Conic}
-use Rattle.conic.specs.declared.Halves.{Halves}
-use Rattle.conic.specs.Conic.{flatOf, splitOf}
+use Rattle.conic.specs.Conic.{Halves, flatOf, splitOf}
 use Rattle.conic.specs.Halving.{Piece, pieceOf, halve, wordOf}
 
 -- no halving left

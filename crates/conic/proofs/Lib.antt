@@ -3,5 +3,7 @@ pub mod Halving
 pub mod Tiling
 pub mod Bits
 pub mod Whole
+mod Weight
+mod Flat
 pub mod Margins
 pub mod Near

@@ -41,16 +41,16 @@ abbrev part : Float → Float
 part c = mul binary32 thousandth (length c)
 
 -- ---- 0.0, 1e-30, 1.000002e-6 and 9.99998e-7, and the values of these and of a thousandth
-abbrev nought : Float
+abbrev pub nought : Float
 nought = ofBits binary32 0
 
-abbrev tiny : Float
+abbrev pub tiny : Float
 tiny = ofBits binary32 0x0da2_4260
 
-abbrev more : Float
+abbrev pub more : Float
 more = ofBits binary32 0x3586_37cf
 
-abbrev less : Float
+abbrev pub less : Float
 less = ofBits binary32 0x3586_37ab
 
 tiny-value : HasValue tiny false 332307 (2 ^ 118)

@@ -6,9 +6,9 @@ use lib.Ieee.Scale.{finite}
 use Rattle.ieee.specs.Basic.{absOf}
 use Rattle.ieee.specs.Sqrt.{sqrtOf}
 use Rattle.geometry.specs.declared.Point.{Point}
-use Rattle.geometry.specs.Point.{one, addOf, subOf, scaleOf, shrinkOf, lengthOf, finitePoint}
+use Rattle.geometry.specs.Point.{one, addOf, subOf, scaleOf, shrinkOf, lengthSquaredOf, lengthOf, finitePoint}
 use Rattle.conic.specs.declared.Conic.{Conic}
-use Rattle.conic.specs.declared.Halves.{Halves}
+use Rattle.conic.specs.declared.Subdivision.{Subdivision}
 use Rattle.conic.specs.declared.Lowered.{Lowered}
 use Rattle.conic.specs.declared.Lowered.the-variants.{Line, Curve}
 
@@ -27,6 +27,10 @@ quarter = ofBits binary32 0x3e80_0000
 
 abbrev pub thousandth : Float
 thousandth = ofBits binary32 0x3a83_126f
+
+-- a conic by its floats: start, control, target and weight
+abbrev pub conicAt : Float → Float → Float → Float → Float → Float → Float → Conic
+conicAt x0 y0 x1 y1 x2 y2 w = record { from = record { x = x0; y = y0 }; ctrl = record { x = x1; y = y1 }; to = record { x = x2; y = y2 }; weight = w }
 
 -- a weight not finite or at most 0, or a control or target not finite; the pen, c .from, is not tested
 unfoldable pub isLine : Conic → Bool
@@ -48,6 +52,13 @@ quadMid c =
     let sum = addOf (addOf (c .from) (scaleOf (c .ctrl) two)) (c .to) in
     scaleOf sum quarter
 
+-- how far the two middles are apart, and how long the chord is, squared
+abbrev pub distanceOf : Conic → Float
+distanceOf c = lengthSquaredOf (subOf (conicMid c) (quadMid c))
+
+abbrev pub chordOf : Conic → Float
+chordOf c = lengthSquaredOf (subOf (c .to) (c .from))
+
 -- of two squared lengths, the length of d is at most a thousandth of the length of c, which is above 0
 unfoldable pub nearOf : Float → Float → Bool
 nearOf d c =
@@ -60,6 +71,10 @@ flatOf c =
     cond (le (absOf (sub binary32 (c .weight) one)) thousandth) true
     (let chord = lengthOf (subOf (c .to) (c .from)) in
     cond (lt zero chord) (le (lengthOf (subOf (conicMid c) (quadMid c))) (mul binary32 thousandth chord)) false)
+
+pub record Halves : Type 0 where
+  pub left : Conic
+  pub right : Conic
 
 -- both halves, by de Casteljau's construction for a rational quadratic
 unfoldable pub splitOf : Conic → Halves
@@ -75,3 +90,10 @@ splitOf c =
       left = record { from = c .from; ctrl = left; to = mid; weight = weight };
       right = record { from = mid; ctrl = right; to = c .to; weight = weight };
     }
+
+-- the halves of c that a subdivision has
+abbrev pub halvesOf : Conic → Subdivision → Halves
+halvesOf c s = record {
+  left = record { from = c .from; ctrl = s .«left_ctrl»; to = s .mid; weight = s .weight };
+  right = record { from = s .mid; ctrl = s .«right_ctrl»; to = c .to; weight = s .weight };
+}

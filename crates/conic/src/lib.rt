@@ -3,7 +3,10 @@
 ghost use mathlib.Core.Path.{_≡_};
 ghost use Prim.Native.Nat.{ℕ, _≤_};
 ghost use lib.ListN.{length};
-ghost use Rattle.conic.specs.Conic.{isLine, lowerOf, conicMid, quadMid, nearOf, flatOf, splitOf};
+ghost use lib.Ieee.{binary32, sub, le};
+ghost use Rattle.ieee.specs.Basic.{absOf};
+ghost use Rattle.geometry.specs.Point.{one};
+ghost use Rattle.conic.specs.Conic.{conicAt, thousandth, isLine, lowerOf, conicMid, quadMid, distanceOf, chordOf, nearOf, flatOf, splitOf, halvesOf};
 ghost use Rattle.conic.specs.Halving.{halve, countOf};
 use geometry::Point;
 
@@ -14,9 +17,12 @@ pub struct Conic {
     pub weight: f32,
 }
 
-pub struct Halves {
-    pub left: Conic,
-    pub right: Conic,
+// A conic's middle, the controls of its halves and their weight.
+pub struct Subdivision {
+    pub left_ctrl: Point,
+    pub mid: Point,
+    pub right_ctrl: Point,
+    pub weight: f32,
 }
 
 // What a conic is drawn as: one line, or the quads of a curve.
@@ -74,97 +80,121 @@ fn quad_mid(c: Conic) -> Point
     geometry::scale(sum, 0.25)
 }
 
-// Whether the root of d is at most a thousandth of the root of c, which is above 0.
-fn by_roots(d: f32, c: f32) -> bool
-    ensures { λ r. ⌜ r ≡ nearOf d c ⌝ }
+// By two comparisons: the absolute value would keep a NaN apart.
+fn is_near_one(w: f32) -> bool
+    ensures { λ r. ⌜ r ≡ le (absOf (sub binary32 w one)) thousandth ⌝ }
 {
-    let chord = ieee::sqrt(c);
-    if chord > 0.0 {
-        return ieee::sqrt(d) <= 0.001 * chord;
+    let over = w - 1.0;
+    if over <= 0.001 {
+        return -0.001 <= over;
     }
     false
 }
 
-// The same. The roots and the product are each off by a part in 2^23 at most, so they can decide only
-// where d is within two parts in a million of a millionth of c; near 0 that bound fails.
-fn is_near(d: f32, c: f32) -> bool
-    ensures { λ r. ⌜ r ≡ nearOf d c ⌝ }
+// Whether the middles of the conic and of the quad are near each other, measured by a chord above 0.
+// What is called at each halving takes a conic's floats one by one: a record would go through memory
+// at each call.
+fn is_near(x0: f32, y0: f32, x1: f32, y1: f32, x2: f32, y2: f32, w: f32) -> bool
+    ensures { λ r. ⌜ r ≡ nearOf (distanceOf (conicAt x0 y0 x1 y1 x2 y2 w)) (chordOf (conicAt x0 y0 x1 y1 x2 y2 w)) ⌝ }
 {
-    if 1e-30 < c {
-        if 1.000002e-6 * c < d {
-            return false;
-        }
-        if 0.0 <= d {
-            if d <= 9.99998e-7 * c {
-                return true;
-            }
-        }
+    let c = Conic {
+        from: Point { x: x0, y: y0 },
+        ctrl: Point { x: x1, y: y1 },
+        to: Point { x: x2, y: y2 },
+        weight: w,
+    };
+    let chord = geometry::length(geometry::sub(c.to, c.from));
+    if chord > 0.0 {
+        return geometry::length(geometry::sub(conic_mid(c), quad_mid(c))) <= 0.001 * chord;
     }
-    by_roots(d, c)
+    false
 }
 
-// Whether the quad with the same control and target is near enough to the conic.
-pub fn is_flat(c: Conic) -> bool
-    ensures { λ r. ⌜ r ≡ flatOf c ⌝ }
+// Whether the quad with the same control and target is near enough to the conic: by the squared lengths. Roots and
+// product are each off by a part in 2^23 at most, so they can decide only where the one is within two parts in a million
+// of a millionth of the other; near 0 that bound fails.
+pub fn is_flat(x0: f32, y0: f32, x1: f32, y1: f32, x2: f32, y2: f32, w: f32) -> bool
+    ensures { λ r. ⌜ r ≡ flatOf (conicAt x0 y0 x1 y1 x2 y2 w) ⌝ }
 {
-    if ieee::abs(c.weight - 1.0) <= 0.001 {
+    if is_near_one(w) {
         return true;
     }
+    let c = Conic {
+        from: Point { x: x0, y: y0 },
+        ctrl: Point { x: x1, y: y1 },
+        to: Point { x: x2, y: y2 },
+        weight: w,
+    };
     let chord = geometry::length_squared(geometry::sub(c.to, c.from));
     let distance = geometry::length_squared(geometry::sub(conic_mid(c), quad_mid(c)));
-    is_near(distance, chord)
+    if 1e-30 < chord {
+        if distance <= 9.99998e-7 * chord {
+            if 0.0 <= distance {
+                return true;
+            }
+            return is_near(x0, y0, x1, y1, x2, y2, w);
+        }
+        if 1.000002e-6 * chord < distance {
+            return false;
+        }
+        return is_near(x0, y0, x1, y1, x2, y2, w);
+    }
+    is_near(x0, y0, x1, y1, x2, y2, w)
 }
 
 // Both halves of a conic, at its middle parameter.
-pub fn split(c: Conic) -> Halves
-    ensures { λ r. ⌜ r ≡ splitOf c ⌝ }
+pub fn subdivide(x0: f32, y0: f32, x1: f32, y1: f32, x2: f32, y2: f32, w: f32) -> Subdivision
+    ensures { λ r. ⌜ halvesOf (conicAt x0 y0 x1 y1 x2 y2 w) r ≡ splitOf (conicAt x0 y0 x1 y1 x2 y2 w) ⌝ }
 {
-    let from = c.from;
-    let to = c.to;
-    let w = c.weight;
+    let from = Point { x: x0, y: y0 };
+    let ctrl = Point { x: x1, y: y1 };
+    let to = Point { x: x2, y: y2 };
     let scale = 1.0 / (1.0 + w);
-    let weighted = geometry::scale(c.ctrl, w);
+    let weighted = geometry::scale(ctrl, w);
     let left_ctrl = geometry::scale(geometry::add(from, weighted), scale);
     let right_ctrl = geometry::scale(geometry::add(weighted, to), scale);
-    let sum = geometry::add(geometry::add(from, geometry::scale(c.ctrl, 2.0 * w)), to);
+    let sum = geometry::add(geometry::add(from, geometry::scale(ctrl, 2.0 * w)), to);
     let mid = geometry::scale(sum, 0.5 * scale);
-    let split_weight = ieee::sqrt((1.0 + w) * 0.5);
-    Halves {
-        left: Conic {
-            from: from,
-            ctrl: left_ctrl,
-            to: mid,
-            weight: split_weight,
-        },
-        right: Conic {
-            from: mid,
-            ctrl: right_ctrl,
-            to: to,
-            weight: split_weight,
-        },
+    Subdivision {
+        left_ctrl: left_ctrl,
+        mid: mid,
+        right_ctrl: right_ctrl,
+        weight: ieee::sqrt((1.0 + w) * 0.5),
     }
 }
 
 // How many quads at most `depth` halvings leave of a conic, wherever its span starts.
-fn count_quads(c: Conic, depth: usize) -> usize
+fn count_quads(x0: f32, y0: f32, x1: f32, y1: f32, x2: f32, y2: f32, w: f32, depth: usize) -> usize
     requires { ⌜ depth ≤ 6 ⌝ }
-    ensures { λ r. ⌜ ((start : ℕ) → r ≡ length (halve depth c start)) ⌝ }
+    ensures { λ r. ⌜ ((start : ℕ) → r ≡ length (halve depth (conicAt x0 y0 x1 y1 x2 y2 w) start)) ⌝ }
 {
     if depth == 0 {
         return 1;
     }
-    if is_flat(c) {
+    if is_flat(x0, y0, x1, y1, x2, y2, w) {
         return 1;
     }
-    let h = split(c);
-    let left = h.left;
-    let right = h.right;
-    count_quads(left, depth - 1) + count_quads(right, depth - 1)
+    let d = depth - 1;
+    let h = subdivide(x0, y0, x1, y1, x2, y2, w);
+    let l = h.left_ctrl;
+    let m = h.mid;
+    let r = h.right_ctrl;
+    count_quads(x0, y0, l.x, l.y, m.x, m.y, h.weight, d)
+        + count_quads(m.x, m.y, r.x, r.y, x2, y2, h.weight, d)
 }
 
 // How many quads a conic is drawn as: 1 to 64.
 pub fn count(c: Conic) -> usize
     ensures { λ r. ⌜ r ≡ countOf c ⌝ }
 {
-    count_quads(c, MAX_DEPTH)
+    count_quads(
+        c.from.x,
+        c.from.y,
+        c.ctrl.x,
+        c.ctrl.y,
+        c.to.x,
+        c.to.y,
+        c.weight,
+        MAX_DEPTH,
+    )
 }

@@ -10,8 +10,7 @@ use lib.Pow.{shl-exact}
 use lib.Dec.{lit<}
 use lib.Ieee.{Float}
 use Rattle.conic.specs.declared.Conic.{Conic}
-use Rattle.conic.specs.declared.Halves.{Halves}
-use Rattle.conic.specs.Conic.{flatOf, splitOf}
+use Rattle.conic.specs.Conic.{Halves, flatOf, splitOf}
 use Rattle.conic.specs.Halving.{Piece, pieceOf, halve, wordOf}
 use Rattle.conic.proofs.Halving.{halve-split, word-append}
 use Rattle.stream.specs.declared.Builder.{Builder}

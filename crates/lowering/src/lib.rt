@@ -19,48 +19,122 @@ pub struct Written {
     pub word: u64,
 }
 
-// One quad, from the bit where it starts.
-fn push_piece(b: Builder, verbs: &mut [u8], points: &mut [f32], c: Conic, start: usize) -> Written
-    requires { ⌜ (start < 64) × (b .verbs < length (now verbs)) × (2 * (b .points + 2) ≤ length (now points)) ⌝ }
-    ensures { λ r. ⌜ state (r .builder) (now (verbs .exit)) (now (points .exit)) ≡ push (state b (now (verbs .entry)) (now (points .entry))) (Element.Quad (c .ctrl) (c .to)) ⌝ }
+// How many quads were written, and the bits where they start.
+struct Marks {
+    count: usize,
+    word: u64,
+}
+
+// One quad as verb v, from point p on and from the bit where it starts.
+fn push_piece(
+    v: usize,
+    p: usize,
+    verbs: &mut [u8],
+    points: &mut [f32],
+    ctrl: Point,
+    to: Point,
+    start: usize,
+) -> Marks
+    requires { ⌜ (start < 64) × (v < length (now verbs)) × (2 * (p + 2) ≤ length (now points)) ⌝ }
+    ensures { λ r. ⌜ (r .count ≡ 1) × ((s q : Point) → state (builderAt (v + 1) (p + 2) s to) (now (verbs .exit)) (now (points .exit)) ≡ push (state (builderAt v p s q) (now (verbs .entry)) (now (points .entry))) (Element.Quad ctrl to)) ⌝ }
     ensures { λ r. ⌜ r .word ≡ 2 ^ start ⌝ }
 {
-    let b2 = stream::push_quad(b, verbs, points, c.ctrl, c.to);
-    Written {
-        builder: b2,
+    let origin = Point { x: 0.0, y: 0.0 };
+    stream::push_quad(
+        Builder {
+            verbs: v,
+            points: p,
+            start: origin,
+            pen: origin,
+        },
+        verbs,
+        points,
+        ctrl,
+        to,
+    );
+    Marks {
+        count: 1,
         word: 1 << start,
     }
 }
 
-// The quads of a conic behind the held elements, for which there is room, and the bits where they start.
+// The quads of a conic as verbs from v on and points from p on, for which there is room, and the bits where they start.
 fn push_conic(
-    b: Builder,
+    v: usize,
+    p: usize,
     verbs: &mut [u8],
     points: &mut [f32],
-    c: Conic,
+    x0: f32,
+    y0: f32,
+    x1: f32,
+    y1: f32,
+    x2: f32,
+    y2: f32,
+    w: f32,
     depth: usize,
     start: usize,
-) -> Written
-    requires { ⌜ (depth ≤ 6) × (start + 2 ^ depth ≤ 64) × (b .verbs + length (halve depth c start) ≤ length (now verbs)) × (2 * (b .points + 2 * length (halve depth c start)) ≤ length (now points)) ⌝ }
-    ensures { λ r. ⌜ state (r .builder) (now (verbs .exit)) (now (points .exit)) ≡ pushAll (state b (now (verbs .entry)) (now (points .entry))) (quadsOf (halve depth c start)) ⌝ }
-    ensures { λ r. ⌜ r .word ≡ wordOf (halve depth c start) ⌝ }
-{
+) -> Marks {
     if depth == 0 {
-        return push_piece(b, verbs, points, c, start);
+        return push_piece(
+            v,
+            p,
+            verbs,
+            points,
+            Point { x: x1, y: y1 },
+            Point { x: x2, y: y2 },
+            start,
+        );
     }
-    if conic::is_flat(c) {
-        return push_piece(b, verbs, points, c, start);
+    if conic::is_flat(x0, y0, x1, y1, x2, y2, w) {
+        return push_piece(
+            v,
+            p,
+            verbs,
+            points,
+            Point { x: x1, y: y1 },
+            Point { x: x2, y: y2 },
+            start,
+        );
     }
     let d = depth - 1;
-    let h = conic::split(c);
-    let left = h.left;
-    let right = h.right;
-    let l = push_conic(b, verbs, points, left, d, start);
-    let lb = l.builder;
-    let r = push_conic(lb, verbs, points, right, d, start + (1 << d));
-    let rb = r.builder;
-    Written {
-        builder: rb,
+    let h = conic::subdivide(x0, y0, x1, y1, x2, y2, w);
+    let a = h.left_ctrl;
+    let m = h.mid;
+    let b = h.right_ctrl;
+    let l = push_conic(
+        v,
+        p,
+        verbs,
+        points,
+        x0,
+        y0,
+        a.x,
+        a.y,
+        m.x,
+        m.y,
+        h.weight,
+        d,
+        start,
+    );
+    let v2 = v + l.count;
+    let p2 = p + 2 * l.count;
+    let r = push_conic(
+        v2,
+        p2,
+        verbs,
+        points,
+        m.x,
+        m.y,
+        b.x,
+        b.y,
+        x2,
+        y2,
+        h.weight,
+        d,
+        start + (1 << d),
+    );
+    Marks {
+        count: l.count + r.count,
         word: l.word + r.word,
     }
 }
@@ -79,6 +153,33 @@ pub fn push_lowered(b: Builder, verbs: &mut [u8], points: &mut [f32], l: Lowered
                 word: 0,
             }
         }
-        Lowered::Curve(c) => push_conic(b, verbs, points, c, MAX_DEPTH, 0),
+        Lowered::Curve(c) => {
+            let m = push_conic(
+                b.verbs,
+                b.points,
+                verbs,
+                points,
+                c.from.x,
+                c.from.y,
+                c.ctrl.x,
+                c.ctrl.y,
+                c.to.x,
+                c.to.y,
+                c.weight,
+                MAX_DEPTH,
+                0,
+            );
+            let start = b.start;
+            let to = c.to;
+            Written {
+                builder: Builder {
+                    verbs: b.verbs + m.count,
+                    points: b.points + 2 * m.count,
+                    start: start,
+                    pen: to,
+                },
+                word: m.word,
+            }
+        }
     }
 }

@@ -1,7 +1,7 @@
 use Rattle.conic.specs.Conic.{splitOf}
 use borrow.Author.Needs.{needs}
-use Rattle.conic.proofs.split.Statement.{statement}
-use Rattle.conic.proofs.split.Tie as tie
+use Rattle.conic.proofs.subdivide.Statement.{statement}
+use Rattle.conic.proofs.subdivide.Tie as tie
 
 scale-requires : tie.Need-scale-requires
 scale-requires c κs = search needs
@@ -37,8 +37,8 @@ returns : tie.Need-returns
 unfolding splitOf
 returns c = rw (← c .before .before .before .before .before .before .before .before .before .scale .ensures, ← c .before .before .before .before .before .before .before .before .add .ensures, ← c .before .before .before .before .before .before .before .scale2 .ensures, ← c .before .before .before .before .before .before .add2 .ensures, ← c .before .before .before .before .before .scale3 .ensures, ← c .before .before .before .before .scale4 .ensures, ← c .before .before .before .add3 .ensures, ← c .before .before .add4 .ensures, ← c .before .scale5 .ensures, ← c .sqrt .ensures)
 
-pub split-spec : {M : Type 1} → statement M
-split-spec =
+pub subdivide-spec : {M : Type 1} → statement M
+subdivide-spec =
     tie.close
     (tie.spec
     scale-requires
