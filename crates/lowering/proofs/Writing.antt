@@ -1,5 +1,5 @@
 -- What the code that writes a conic has where it writes one quad, and where it writes both halves.
-use mathlib.Core.Path.{_≡_, refl, sym, ap, _∙_}
+use mathlib.Core.Path.{_≡_, refl, sym, ap, ap₂, _∙_}
 use mathlib.Core.List.{List, [], _∷_, _++_}
 use mathlib.Core.Bool.{true, false}
 use Prim.Native.Nat.{ℕ, _+_, _-_, _*_, _%_, _^_, _≤_, _<_}
@@ -9,6 +9,7 @@ use lib.ListN.{length, length-append}
 use lib.Pow.{shl-exact}
 use lib.Dec.{lit<}
 use lib.Ieee.{Float}
+use Rattle.geometry.specs.declared.Point.{Point}
 use Rattle.conic.specs.declared.Conic.{Conic}
 use Rattle.conic.specs.Conic.{Halves, flatOf, splitOf}
 use Rattle.conic.specs.Halving.{Piece, pieceOf, halve, wordOf}
@@ -16,10 +17,10 @@ use Rattle.conic.proofs.Halving.{halve-split, word-append}
 use Rattle.stream.specs.declared.Builder.{Builder}
 use Rattle.stream.specs.declared.Element.{Element}
 use Rattle.stream.specs.declared.Element.the-variants.{Quad}
-use Rattle.stream.specs.Stream.{State, state, push, pushAll, sizesOf}
-use Rattle.stream.proofs.Push.{push-all-verbs, push-all-points, push-all-append, push-all-one}
-use Rattle.lowering.specs.Entries.{elementsOf, quadsOf}
-use Rattle.lowering.proofs.Entries.{quads-append, quads-length, quads-sizes}
+use Rattle.stream.specs.Stream.{State, state, push, pushAll, advanceOf}
+use Rattle.stream.proofs.Push.{push-all-append}
+use Rattle.lowering.specs.Entries.{elementsOf, quadsOf, builderAt}
+use Rattle.lowering.proofs.Entries.{quads-append}
 
 -- ---- one quad
 
@@ -36,6 +37,12 @@ one-quad ps c start size e = record { many = ap length e; quads = ap quadsOf e; 
 pub bit : (k : ℕ) → k < 64 → (1 * 2 ^ k) % 2 ^ 64 ≡ 2 ^ k
 bit k h = shl-exact 1 k 64 (lit< tt) (omega arith) ∙ one-mul (2 ^ k)
 
+-- a quad is written in the same way wherever start and pen are
+pub quad-anywhere : (v p : ℕ) (f q ctrl to : Point) (vs : List ℕ) (fs : List Float) {r : Builder} {ws : List ℕ} {gs : List Float} → state r ws gs ≡ push (state (builderAt v p f q) vs fs) (Quad ctrl to)
+    → (from pen : Point) → state (builderAt (v + 1) (p + 2) from to) ws gs ≡ push (state (builderAt v p from pen) vs fs) (Quad ctrl to)
+unfolding push advanceOf
+quad-anywhere v p f q ctrl to vs fs e from pen = ap₂ (state (builderAt (v + 1) (p + 2) from to)) (ap (λ (x : State). x .verbs) e) (ap (λ (x : State). x .floats) e)
+
 -- ---- both halves
 
 pub record BothHalves (ps l r : List Piece) : Type 0 where
@@ -51,14 +58,13 @@ both-halves n c h start z f e =
     let r = halve (n - 1) (h .right) (start + 2 ^ (n - 1)) in
     record { many = ap length q ∙ length-append l r; quads = ap quadsOf q ∙ quads-append l r; word = ap wordOf q ∙ word-append l r }
 
--- ---- the counts after the first half
-
-pub record Counts (b b′ : Builder) (n : ℕ) : Type 0 where
-  pub verbs : b′ .verbs ≡ b .verbs + n
-  pub points : b′ .points ≡ b .points + 2 * n
-
-pub counts : (s : State) (ps : List Piece) (t : State) → t ≡ pushAll s (quadsOf ps) → Counts (s .builder) (t .builder) (length ps)
-counts s ps t e = record {
-  verbs = ap (λ (x : State). x .builder .verbs) e ∙ push-all-verbs s (quadsOf ps) ∙ ap (λ (n : ℕ). s .builder .verbs + n) (quads-length ps);
-  points = ap (λ (x : State). x .builder .points) e ∙ push-all-points s (quadsOf ps) ∙ ap (λ (n : ℕ). s .builder .points + n) (quads-sizes ps);
-}
+-- the first half from v and p on, then the second behind it
+pub both-written : (v p m n : ℕ) (from pen to mid : Point) (vs : List ℕ) (fs : List Float) (xs ys zs : List Element) {us ws : List ℕ} {gs hs : List Float} → zs ≡ xs ++ ys
+    → state (builderAt (v + m) (p + 2 * m) from mid) us gs ≡ pushAll (state (builderAt v p from pen) vs fs) xs
+    → state (builderAt (v + m + n) (p + 2 * m + 2 * n) from to) ws hs ≡ pushAll (state (builderAt (v + m) (p + 2 * m) from mid) us gs) ys
+    → state (builderAt (v + (m + n)) (p + 2 * (m + n)) from to) ws hs ≡ pushAll (state (builderAt v p from pen) vs fs) zs
+both-written v p m n from pen to mid vs fs xs ys zs {us} {ws} {gs} {hs} z e g =
+    ap₂ (λ (x y : ℕ). state (builderAt x y from to) ws hs) (omega arith) (omega arith)
+    ∙ g
+    ∙ ap (λ (s : State). pushAll s ys) e
+    ∙ sym (ap (pushAll (state (builderAt v p from pen) vs fs)) z ∙ push-all-append (state (builderAt v p from pen) vs fs) xs ys)

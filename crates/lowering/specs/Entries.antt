@@ -3,12 +3,15 @@ use mathlib.Core.Path.{_≡_}
 use mathlib.Core.List.{List, [], _∷_, map}
 use mathlib.Core.Bool.{true, false}
 use Prim.Native.Nat.{ℕ}
+use lib.Ieee.{Float}
+use Rattle.geometry.specs.declared.Point.{Point}
 use Rattle.conic.specs.declared.Conic.{Conic}
 use Rattle.conic.specs.declared.Lowered.{Lowered}
 use Rattle.conic.specs.declared.Lowered.the-variants as lowered
 use Rattle.conic.specs.Conic.{isLine}
 use Rattle.conic.specs.Halving.{Piece, piecesOf, wordOf}
 use Rattle.conic.specs.Spans.{WholeConic}
+use Rattle.stream.specs.declared.Builder.{Builder}
 use Rattle.stream.specs.declared.Element.{Element}
 use Rattle.stream.specs.declared.Element.the-variants.{Line, Quad}
 
@@ -45,6 +48,13 @@ jointWord es = wordOf (piecesIn es)
 unfoldable pub loweredOf : Lowered → List Entry
 loweredOf (lowered.Line p) = plain (Line p) ∷ []
 loweredOf (lowered.Curve c) = map piece (piecesOf c)
+
+-- a point and a builder record by their parts
+abbrev pub pointAt : Float → Float → Point
+pointAt x y = record { x = x; y = y }
+
+abbrev pub builderAt : ℕ → ℕ → Point → Point → Builder
+builderAt v p start pen = record { verbs = v; points = p; start = start; pen = pen }
 
 -- what document 01 says of a conic's entries and joint word: one line to the target and 0, or the 1 to 64 quads of the halving and the starts of
 -- their spans

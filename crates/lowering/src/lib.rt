@@ -3,9 +3,10 @@
 ghost use mathlib.Core.Path.{_≡_};
 ghost use Prim.Native.Nat.{_+_, _*_, _^_, _<_, _≤_};
 ghost use lib.ListN.{length};
+ghost use Rattle.conic.specs.Conic.{conicAt};
 ghost use Rattle.conic.specs.Halving.{halve, wordOf};
 ghost use Rattle.stream.specs.Stream.{state, push, pushAll, Fits};
-ghost use Rattle.lowering.specs.Entries.{elementsOf, quadsOf, loweredOf, jointWord};
+ghost use Rattle.lowering.specs.Entries.{elementsOf, quadsOf, loweredOf, jointWord, pointAt, builderAt};
 use conic::Conic;
 use conic::Lowered;
 use conic::MAX_DEPTH;
@@ -25,7 +26,7 @@ struct Marks {
     word: u64,
 }
 
-// One quad as verb v, from point p on and from the bit where it starts.
+// One quad as verb v, its points from p on, and the bit where it starts.
 fn push_piece(
     v: usize,
     p: usize,
@@ -36,29 +37,24 @@ fn push_piece(
     start: usize,
 ) -> Marks
     requires { ⌜ (start < 64) × (v < length (now verbs)) × (2 * (p + 2) ≤ length (now points)) ⌝ }
-    ensures { λ r. ⌜ (r .count ≡ 1) × ((s q : Point) → state (builderAt (v + 1) (p + 2) s to) (now (verbs .exit)) (now (points .exit)) ≡ push (state (builderAt v p s q) (now (verbs .entry)) (now (points .entry))) (Element.Quad ctrl to)) ⌝ }
-    ensures { λ r. ⌜ r .word ≡ 2 ^ start ⌝ }
+    ensures { λ r. ⌜ ((from pen : Point) → state (builderAt (v + r .count) (p + 2 * r .count) from to) (now (verbs .exit)) (now (points .exit)) ≡ push (state (builderAt v p from pen) (now (verbs .entry)) (now (points .entry))) (Element.Quad ctrl to)) ⌝ }
+    ensures { λ r. ⌜ (r .count ≡ 1) × (r .word ≡ 2 ^ start) ⌝ }
 {
-    let origin = Point { x: 0.0, y: 0.0 };
-    stream::push_quad(
-        Builder {
-            verbs: v,
-            points: p,
-            start: origin,
-            pen: origin,
-        },
-        verbs,
-        points,
-        ctrl,
-        to,
-    );
+    let b = Builder {
+        verbs: v,
+        points: p,
+        start: ctrl,
+        pen: ctrl,
+    };
+    stream::push_quad(b, verbs, points, ctrl, to);
     Marks {
         count: 1,
         word: 1 << start,
     }
 }
 
-// The quads of a conic as verbs from v on and points from p on, for which there is room, and the bits where they start.
+// The quads of a conic as verbs from v on and points from p on, for which there is room, and the bits
+// where they start. Neither start nor pen of a record has a part in it.
 fn push_conic(
     v: usize,
     p: usize,
@@ -73,28 +69,18 @@ fn push_conic(
     w: f32,
     depth: usize,
     start: usize,
-) -> Marks {
+) -> Marks
+    requires { ⌜ (depth ≤ 6) × (start + 2 ^ depth ≤ 64) × (v + length (halve depth (conicAt x0 y0 x1 y1 x2 y2 w) start) ≤ length (now verbs)) × (2 * (p + 2 * length (halve depth (conicAt x0 y0 x1 y1 x2 y2 w) start)) ≤ length (now points)) ⌝ }
+    ensures { λ r. ⌜ ((from pen : Point) → state (builderAt (v + r .count) (p + 2 * r .count) from (pointAt x2 y2)) (now (verbs .exit)) (now (points .exit)) ≡ pushAll (state (builderAt v p from pen) (now (verbs .entry)) (now (points .entry))) (quadsOf (halve depth (conicAt x0 y0 x1 y1 x2 y2 w) start))) ⌝ }
+    ensures { λ r. ⌜ (r .count ≡ length (halve depth (conicAt x0 y0 x1 y1 x2 y2 w) start)) × (r .word ≡ wordOf (halve depth (conicAt x0 y0 x1 y1 x2 y2 w) start)) ⌝ }
+{
+    let ctrl = Point { x: x1, y: y1 };
+    let to = Point { x: x2, y: y2 };
     if depth == 0 {
-        return push_piece(
-            v,
-            p,
-            verbs,
-            points,
-            Point { x: x1, y: y1 },
-            Point { x: x2, y: y2 },
-            start,
-        );
+        return push_piece(v, p, verbs, points, ctrl, to, start);
     }
     if conic::is_flat(x0, y0, x1, y1, x2, y2, w) {
-        return push_piece(
-            v,
-            p,
-            verbs,
-            points,
-            Point { x: x1, y: y1 },
-            Point { x: x2, y: y2 },
-            start,
-        );
+        return push_piece(v, p, verbs, points, ctrl, to, start);
     }
     let d = depth - 1;
     let h = conic::subdivide(x0, y0, x1, y1, x2, y2, w);
@@ -116,11 +102,9 @@ fn push_conic(
         d,
         start,
     );
-    let v2 = v + l.count;
-    let p2 = p + 2 * l.count;
     let r = push_conic(
-        v2,
-        p2,
+        v + l.count,
+        p + 2 * l.count,
         verbs,
         points,
         m.x,

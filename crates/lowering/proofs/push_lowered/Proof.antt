@@ -1,10 +1,10 @@
-use Rattle.lowering.proofs.Entries.{LoweredTo, lowered-line, lowered-curve}
-use Rattle.stream.proofs.Push.{push-all-one}
-use Rattle.stream.specs.Stream.{State, state, pushAll}
-use lib.Dec.{lit≤}
-use native.Mathlib.Omega.{arith}
 use mathlib.Core.Path.{sym, ap, _∙_}
+use native.Mathlib.Omega.{arith}
+use lib.Dec.{lit≤}
 use borrow.Author.Needs.{needs}
+use Rattle.stream.specs.Stream.{State, state, pushAll}
+use Rattle.stream.proofs.Push.{push-all-one}
+use Rattle.lowering.proofs.Entries.{LoweredTo, lowered-line, lowered-curve}
 use Rattle.lowering.proofs.push_lowered.Statement.{statement}
 use Rattle.lowering.proofs.push_lowered.Tie as tie
 
@@ -23,6 +23,21 @@ push-conic-requires : tie.Need-push-conic-requires
 push-conic-requires c κs =
     let h = lowered-curve (c .before .before .before .before .before .before .before .args .l) _ (c .before .before .before .l2 .given .1) in
     (lit≤ tt, lit≤ tt, omega (arith, c .before .before .before .before .before .before .before .pre, h .many), omega (arith, c .before .before .before .before .before .before .before .pre, h .size))
+
+add-t20 : tie.Need-add-t20
+add-t20 c =
+    let h = lowered-curve (c .before .before .before .before .before .before .before .before .before .before .before .before .before .before .before .before .args .l) _ (c .before .before .before .before .before .before .before .before .before .before .before .before .l2 .given .1) in
+    omega (arith, c .before .before .before .before .before .before .before .before .before .before .before .before .before .before .before .before .pre, c .before .before .before .before .before .before .before .before .before .before .before .before .before .before .before .before .good, c .before .before .before .before .before .before .before .before .push-conic .ensures .1 .0, h .many, h .size)
+
+mul-t21 : tie.Need-mul-t21
+mul-t21 c =
+    let h = lowered-curve (c .before .before .before .before .before .before .before .before .before .before .before .before .before .before .before .before .before .args .l) _ (c .before .before .before .before .before .before .before .before .before .before .before .before .before .l2 .given .1) in
+    omega (arith, c .before .before .before .before .before .before .before .before .before .before .before .before .before .before .before .before .before .pre, c .before .before .before .before .before .before .before .before .before .before .before .before .before .before .before .before .before .good, c .before .before .before .before .before .before .before .before .before .push-conic .ensures .1 .0, h .many, h .size)
+
+add-t22 : tie.Need-add-t22
+add-t22 c =
+    let h = lowered-curve (c .before .before .before .before .before .before .before .before .before .before .before .before .before .before .before .before .before .before .args .l) _ (c .before .before .before .before .before .before .before .before .before .before .before .before .before .before .l2 .given .1) in
+    omega (arith, c .before .before .before .before .before .before .before .before .before .before .before .before .before .before .before .before .before .before .pre, c .before .before .before .before .before .before .before .before .before .before .before .before .before .before .before .before .before .before .good, c .before .before .before .before .before .before .before .before .before .before .push-conic .ensures .1 .0, h .many, h .size)
 
 same-length : tie.Need-same-length
 same-length c = search needs
@@ -45,10 +60,11 @@ same-length-4 c = search needs
 
 returns-2 : tie.Need-returns-2
 returns-2 c =
-    let a = c .before .before .before .before .before .before .before .before .before .before .before .before .args in
+    let a = c .before .before .before .before .before .before .before .before .before .before .before .before .before .before .before .before .before .before .args in
     let s : State = state (a .b) (a .verbs .now) (a .points .now) in
-    let h = lowered-curve (a .l) _ (c .before .before .before .before .before .before .before .before .l2 .given .1) in
-    (c .before .before .before .before .push-conic .ensures .0 ∙ sym (ap (pushAll s) (h .elements)), c .before .before .before .before .push-conic .ensures .1 ∙ sym (h .word))
+    let h = lowered-curve (c .before .before .before .before .before .before .before .before .before .before .before .before .before .before .before .before .before .before .args .l) _ (c .before .before .before .before .before .before .before .before .before .before .before .before .before .before .l2 .given .1) in
+    let e = c .before .before .before .before .before .before .before .before .before .before .push-conic .ensures in
+    (e .0 (a .b .start) (a .b .pen) ∙ sym (ap (pushAll s) (h .elements)), e .1 .1 ∙ sym (h .word))
 
 pub push-lowered-spec : {M : Type 1} → statement M
 push-lowered-spec =
@@ -58,6 +74,9 @@ push-lowered-spec =
     push-line-requires
     enum-known-l-2
     push-conic-requires
+    add-t20
+    mul-t21
+    add-t22
     same-length
     same-length-2
     returns
