@@ -28,7 +28,8 @@ pub fn octant_contains(param: Octant, p: Point) -> bool
     }
     if p.x <= param.circle_start.x {
         let p_se = geometry::shrink(p, param.se_a);
-        return exponential::pow(p_se.x, param.se_n) + exponential::pow(p_se.y, param.se_n) <= 1.0;
+        let powers = exponential::pow_pair(p_se.x, p_se.y, param.se_n);
+        return powers.first + powers.second <= 1.0;
     }
     let circle_radius = geometry::distance_squared(param.circle_start, param.circle_center);
     geometry::length_squared(geometry::sub(p, param.circle_center)) < circle_radius
