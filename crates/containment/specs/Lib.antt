@@ -1,1 +1,2 @@
 pub mod Contains
+pub mod Arcs

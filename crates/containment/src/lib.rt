@@ -1,11 +1,13 @@
 // Whether a shape contains a point, by the curve itself. It refuses nothing: a NaN follows IEEE comparison.
 // Binary32 throughout, every operation rounded once, with the Rust's names and in its order.
 ghost use mathlib.Core.Path.{_≡_};
-ghost use mathlib.Core.Bool.{cond, _&&_, _||_};
+ghost use mathlib.Core.Bool.{true, cond, _&&_, _||_};
+ghost use Prim.Native.Nat.{_<_};
 ghost use lib.Ieee.{lt};
 ghost use Rattle.geometry.specs.Point.{absPoint};
 ghost use Rattle.octant.specs.Binary32.{zero};
 ghost use Rattle.containment.specs.Contains.{octantContainsOf, within, squareContains, roundContains, squareCorner, normContains, cornerContainsOf, containsOf};
+ghost use Rattle.containment.specs.Arcs.{beyondCircle, arcsOf, beyondArcs, missesOf, arcsIn};
 use geometry::Point;
 use octant::Octant;
 use quadrant::Quadrant;
@@ -26,7 +28,8 @@ pub fn octant_contains(param: Octant, p: Point) -> bool
     }
     if p.x <= param.circle_start.x {
         let p_se = geometry::shrink(p, param.se_a);
-        return exponential::pow(p_se.x, param.se_n) + exponential::pow(p_se.y, param.se_n) <= 1.0;
+        let powers = exponential::pow_pair(p_se.x, p_se.y, param.se_n);
+        return powers.first + powers.second <= 1.0;
     }
     let circle_radius = geometry::distance_squared(param.circle_start, param.circle_center);
     geometry::length_squared(geometry::sub(p, param.circle_center)) < circle_radius
@@ -128,4 +131,118 @@ pub fn contains(shape: RoundSuperellipse, p: Point) -> bool
         return false;
     }
     false
+}
+
+// What a corner's circular arcs ask of a point, for a quick test of many points: most points outside lie beyond an arc.
+// In each pair x is the top octant's number and y the right one's, so that both are tested in one go.
+pub struct Arcs {
+    pub offset: Point,
+    pub signed_scale: Point,
+    // The octants' offsets, the right one's with x and y exchanged.
+    pub from_x: Point,
+    pub from_y: Point,
+    pub start: Point,
+    pub center_x: Point,
+    pub center_y: Point,
+    // Squared.
+    pub radius: Point,
+    pub is_round: bool,
+}
+
+fn arcs_of(q: Quadrant) -> Arcs
+    ensures { λ r. ⌜ r ≡ arcsOf q ⌝ }
+{
+    let offset = q.offset;
+    let signed_scale = q.signed_scale;
+    Arcs {
+        offset,
+        signed_scale,
+        from_x: Point {
+            x: q.top.offset.x,
+            y: q.right.offset.y,
+        },
+        from_y: Point {
+            x: q.top.offset.y,
+            y: q.right.offset.x,
+        },
+        start: Point {
+            x: q.top.circle_start.x,
+            y: q.right.circle_start.x,
+        },
+        center_x: Point {
+            x: q.top.circle_center.x,
+            y: q.right.circle_center.x,
+        },
+        center_y: Point {
+            x: q.top.circle_center.y,
+            y: q.right.circle_center.y,
+        },
+        radius: Point {
+            x: geometry::distance_squared(q.top.circle_start, q.top.circle_center),
+            y: geometry::distance_squared(q.right.circle_start, q.right.circle_center),
+        },
+        is_round: !is_square(q),
+    }
+}
+
+// The corners' arcs, in the order of `nearest`.
+pub fn all_arcs(shape: RoundSuperellipse) -> [Arcs; 4]
+    ensures { λ r. ⌜ r ≡ arcsIn shape ⌝ }
+{
+    let top_right = arcs_of(shape.top_right);
+    let bottom_right = arcs_of(shape.bottom_right);
+    let top_left = arcs_of(shape.top_left);
+    let bottom_left = arcs_of(shape.bottom_left);
+    [top_right, bottom_right, top_left, bottom_left]
+}
+
+fn flag(c: bool) -> usize
+    ensures { λ r. ⌜ r < 2 ⌝ }
+{
+    if c {
+        return 1;
+    }
+    0
+}
+
+// Which corner's arcs to try for p: those of the side of `center` where p lies. Another corner would cost time, never
+// a wrong answer.
+pub fn nearest(same: bool, center: Point, p: Point) -> usize
+    ensures { λ r. ⌜ (r < 4) × (same ≡ true → r ≡ 0) ⌝ }
+{
+    if same {
+        return 0;
+    }
+    2 * flag(p.x < center.x) + flag(p.y >= center.y)
+}
+
+// All comparisons are made, with no branch between them: which of them decides is hard to foresee.
+fn is_beyond_circle(x: f32, y: f32, start: f32, d: f32, radius: f32) -> bool
+    ensures { λ r. ⌜ r ≡ beyondCircle x y start d radius ⌝ }
+{
+    !((x < 0.0) | (y < 0.0) | (y < x) | (x <= start) | (d < radius))
+}
+
+fn is_beyond_arcs(a: Arcs, n: Point) -> bool
+    ensures { λ r. ⌜ r ≡ beyondArcs a n ⌝ }
+{
+    let x = geometry::sub(n, a.from_x);
+    let y = geometry::sub(Point { x: n.y, y: n.x }, a.from_y);
+    let dx = geometry::sub(x, a.center_x);
+    let dy = geometry::sub(y, a.center_y);
+    let d = geometry::add(geometry::mul(dx, dx), geometry::mul(dy, dy));
+    let top = is_beyond_circle(x.x, y.x, a.start.x, d.x, a.radius.x);
+    let right = is_beyond_circle(x.y, y.y, a.start.y, d.y, a.radius.y);
+    a.is_round & (top | right)
+}
+
+// Whether p lies beyond an arc. Then the corner does not contain it.
+pub fn misses(a: Arcs, same: bool, p: Point) -> bool
+    ensures { λ r. ⌜ r ≡ missesOf a same p ⌝ }
+{
+    let n = geometry::div(geometry::sub(p, a.offset), a.signed_scale);
+    if same {
+        return is_beyond_arcs(a, geometry::abs(n));
+    }
+    !((n.x < 0.0) | (n.y < 0.0)) & is_beyond_arcs(a, n)
 }

@@ -7,3 +7,5 @@ pub mod Scales
 pub mod Ranges
 pub mod Split
 pub mod Rules
+pub mod Plains
+pub mod Series

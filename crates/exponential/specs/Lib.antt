@@ -2,3 +2,4 @@ pub mod Constants
 pub mod Logarithm
 pub mod Exponential
 pub mod Power
+pub mod Plain

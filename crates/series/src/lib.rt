@@ -22,6 +22,38 @@ pub fn horner(cs: &[f64], z: f64) -> f64
     h
 }
 
+pub struct Pair {
+    pub first: f64,
+    pub second: f64,
+}
+
+// The value at two places, in step: neither waits for the other.
+pub fn horner_pair(cs: &[f64], y: f64, z: f64) -> Pair
+    ensures { λ r. ⌜ (r .first ≡ hornerOf binary64 (now (cs .entry)) y) × (r .second ≡ hornerOf binary64 (now (cs .entry)) z) ⌝ }
+{
+    let n = cs.len();
+    if n == 0 {
+        return Pair {
+            first: 0.0,
+            second: 0.0,
+        };
+    }
+    let mut k = n - 1;
+    let last = cs[k];
+    let mut g = last;
+    let mut h = last;
+    while k > 0 {
+        k -= 1;
+        let c = cs[k];
+        g = g * y + c;
+        h = h * z + c;
+    }
+    Pair {
+        first: g,
+        second: h,
+    }
+}
+
 // 1 / (2k + 1) for k from 0 to 25.
 pub fn odd_reciprocals() -> [f64; 26]
     ensures { λ r. ⌜ r ≡ terms oddReciprocal 26 ⌝ }

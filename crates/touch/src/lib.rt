@@ -1,15 +1,17 @@
 // Which button of a panel file a touch goes to: document 01's module 7, for one point and for all
 // touches of the file at once.
 ghost use mathlib.Core.Path.{_≡_};
-ghost use mathlib.Core.Bool.{true};
+ghost use mathlib.Core.Bool.{true, false};
 ghost use Prim.Native.Nat.{_+_, _*_, _<_, _≤_};
 ghost use mathlib.Core.List.{_++_};
 ghost use lib.ListN.{length, take, drop, replicate};
 ghost use Rattle.shape.specs.Refusal.{outcomeOf};
 ghost use Rattle.containment.specs.Contains.{containsOf};
+ghost use Rattle.containment.specs.Arcs.{missesOf};
 ghost use Rattle.panel_file.specs.Panel.{done, recordsOf, isDone, recordsIn, touchesOf};
 ghost use Rattle.touch.specs.Touch.{nowhereCode, codeOf, placeOf, settle, shapeOf, shapesOf, takes, placeAmong, touchedOf, touchOf, left, countOf, placesOf, touchAllOf};
 ghost use Rattle.touch.specs.Search.{pointsIn, marked, passes, nextIndex, lookedAt, floatsOf, nextCount, keptIn};
+use containment::Arcs;
 use containment::contains;
 use geometry::Point;
 use panel_file::Button;
@@ -62,12 +64,17 @@ pub fn shape_of(button: Button) -> Answer
     )
 }
 
-// Where a touch goes, with one shape more looked at: the first that contains it keeps it.
-fn settled(found: u32, index: u32, shape: RoundSuperellipse, p: Point) -> u32
+// Where a touch goes, with one shape more looked at: the first that contains it keeps it. Nearly every touch is told by
+// the arcs of one corner to lie outside.
+fn settled(found: u32, index: u32, shape: RoundSuperellipse, arcs: Arcs, p: Point) -> u32
+    requires { ⌜ (missesOf arcs (shape .«all_corners_same») p ≡ true → containsOf shape p ≡ false) ⌝ }
     ensures { λ r. ⌜ r ≡ codeOf (settle (placeOf found) index (containsOf shape p)) ⌝ }
 {
     if found != NOWHERE {
         return found;
+    }
+    if containment::misses(arcs, shape.all_corners_same, p) {
+        return NOWHERE;
     }
     if contains(shape, p) {
         return index;
@@ -80,13 +87,17 @@ fn mark(shape: RoundSuperellipse, index: u32, points: &[f32], results: &mut [u32
     requires { ⌜ length (now points) ≡ 2 * length (now results) ⌝ }
     ensures { λ _. ⌜ now (results .exit) ≡ marked (containsOf shape) index (pointsIn (now (points .entry))) (now (results .entry)) ⌝ }
 {
+    let arcs = containment::all_arcs(shape);
+    let same = shape.all_corners_same;
+    let first = arcs[0];
     let mut i = 0;
     while i < results.len() {
         let p = Point {
             x: points[2 * i],
             y: points[2 * i + 1],
         };
-        results[i] = settled(results[i], index, shape, p);
+        let near = arcs[containment::nearest(same, first.offset, p)];
+        results[i] = settled(results[i], index, shape, near, p);
         i += 1;
     }
 }

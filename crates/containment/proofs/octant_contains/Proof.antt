@@ -18,15 +18,14 @@ returns-3 c = rw (c .before .before .before .before .if1 .left, c .before .befor
 shrink-requires : tie.Need-shrink-requires
 shrink-requires c κs = search needs
 
-pow-requires : tie.Need-pow-requires
-pow-requires c κs = search needs
-
-pow-requires-2 : tie.Need-pow-requires-2
-pow-requires-2 c κs = search needs
+pow-pair-requires : tie.Need-pow-pair-requires
+pow-pair-requires c κs = search needs
 
 returns-4 : tie.Need-returns-4
 unfolding octantContainsOf
-returns-4 c = rw (c .before .before .before .before .before .before .before .before .before .before .if1 .left, c .before .before .before .before .before .before .before .before .if2 .left, c .before .before .before .before .before .before .if3 .left, c .before .before .before .if4 .taken, ← c .before .before .shrink .ensures, ← c .before .pow .ensures, ← c .pow2 .ensures)
+returns-4 c =
+    let t = c .before in
+    rw (t .before .before .before .before .before .before .before .before .before .if1 .left, t .before .before .before .before .before .before .before .if2 .left, t .before .before .before .before .before .if3 .left, t .before .before .if4 .taken, ← t .before .shrink .ensures, ← t .pow-pair .ensures .0, ← t .pow-pair .ensures .1)
 
 distance-squared-requires : tie.Need-distance-squared-requires
 distance-squared-requires c κs = search needs
@@ -49,8 +48,7 @@ octant-contains-spec =
     returns-2
     returns-3
     shrink-requires
-    pow-requires
-    pow-requires-2
+    pow-pair-requires
     returns-4
     distance-squared-requires
     sub-requires

@@ -1,38 +1,10 @@
-use mathlib.Core.Bool.{not}
-use native.Mathlib.Omega.{arith}
+use mathlib.Core.Path.{_∙_}
 use borrow.Author.Needs.{needs}
-use lib.Dec.{T}
-use lib.Ieee.{Float, nan, inf, fin, isNan}
-use lib.Ieee.Positive.{positive}
-use Rattle.exponential.proofs.Split.{Numbers, split}
 use Rattle.exponential.proofs.ln.Statement.{statement}
 use Rattle.exponential.proofs.ln.Tie as tie
 
-numbers : (c : tie.Start) → Numbers (c .args .u)
-numbers c = split (c .args .u) (c .pre .0) (c .pre .1)
-
-no-nan : (u : Float) → T (positive u) → T (not (isNan u))
-unfolding isNan
-no-nan nan p = p
-no-nan (inf s) p = tt
-no-nan (fin s m e) p = tt
-
-add-unbiased : tie.Need-add-unbiased
-add-unbiased c = omega (arith, numbers c .small)
-
 returns : tie.Need-returns
-returns c = rw (c .ln-at .ensures, c .before .unbiased .ensures, numbers (c .before .before) .ln)
+returns c = c .ln-at .ensures ∙ c .before .parts-of .ensures
 
 pub ln-spec : {M : Type 1} → statement M
-ln-spec =
-    tie.close
-    (tie.spec
-    (λ c. no-nan (c .args .u) (c .pre .1))
-    (λ c. search needs)
-    (λ c. search needs)
-    (λ c. search needs)
-    (λ c. numbers c .no-nan)
-    add-unbiased
-    (λ c κs. numbers c .small)
-    (λ c κs. search needs)
-    returns)
+ln-spec = tie.close (tie.spec (λ c κs. search needs) (λ c κs. search needs) returns)

@@ -1,13 +1,12 @@
 -- The invariant: k is a place of the list, and h is Horner's value of the coefficients from k on. Assumes nothing.
-use mathlib.Core.Path.{_≡_, refl, sym}
-use mathlib.Core.List.{List, [], _∷_}
+use mathlib.Core.Path.{_≡_, sym}
 use Prim.Native.Nat.{suc, _<_, _-_}
 use native.Mathlib.Omega.{arith}
 use lib.ListN.{length, drop}
-use lib.Ieee.{Float, nan, binary64, ofBits}
+use lib.Ieee.{nan, binary64}
 use borrow.Author.Needs.{needs}
 use Rattle.series.specs.Horner.{hornerOf}
-use Rattle.series.proofs.Horners.{horner-last, horner-down}
+use Rattle.series.proofs.Horners.{horner-last, horner-down, horner-none}
 use Rattle.series.proofs.horner.Statement.{statement}
 use Rattle.series.proofs.horner.Tie as tie
 
@@ -17,13 +16,8 @@ Inv-loop cs z n k₀ h₀ k h = (k < length cs) × (h ≡ hornerOf binary64 (dro
 abbrev μ-loop : tie.MeasureT-loop
 μ-loop cs z n k₀ h₀ k h = k
 
-none : (cs : List Float) (z : Float) → length cs ≡ 0 → ofBits binary64 0 ≡ hornerOf binary64 cs z
-unfolding hornerOf ofBits
-none [] z h = refl
-none (c ∷ cs) z h = absurd (omega arith)
-
 returns : tie.Need-returns Inv-loop μ-loop
-returns c = none (c .before .args .cs .now) (c .before .args .z) (omega arith)
+returns c = horner-none (c .before .args .cs .now) (c .before .args .z) (omega arith)
 
 sub-k : tie.Need-sub-k Inv-loop μ-loop
 sub-k c = search needs
