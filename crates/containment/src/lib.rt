@@ -7,11 +7,37 @@ ghost use lib.Ieee.{lt};
 ghost use Rattle.geometry.specs.Point.{absPoint};
 ghost use Rattle.octant.specs.Binary32.{zero};
 ghost use Rattle.containment.specs.Contains.{octantContainsOf, within, squareContains, roundContains, squareCorner, normContains, cornerContainsOf, containsOf};
+ghost use Rattle.containment.specs.Parts.{inSuperellipse, asksPowers};
 ghost use Rattle.containment.specs.Arcs.{beyondCircle, arcsOf, beyondArcs, missesOf, arcsIn};
 use geometry::Point;
 use octant::Octant;
 use quadrant::Quadrant;
 use shape::RoundSuperellipse;
+
+// Whether p is inside a superellipse of the half-extent a and the degree n, its border included.
+fn superellipse_contains(p: Point, a: f32, n: f32) -> bool
+    ensures { λ r. ⌜ r ≡ inSuperellipse p a n ⌝ }
+{
+    let p_se = geometry::shrink(p, a);
+    let powers = exponential::pow_pair(p_se.x, p_se.y, n);
+    powers.first + powers.second <= 1.0
+}
+
+// Whether p lies in the octant and before the circle's start.
+fn asks_powers(param: Octant, p: Point) -> bool
+    ensures { λ r. ⌜ r ≡ asksPowers param p ⌝ }
+{
+    if p.x < 0.0 {
+        return false;
+    }
+    if p.y < 0.0 {
+        return false;
+    }
+    if p.y < p.x {
+        return false;
+    }
+    p.x <= param.circle_start.x
+}
 
 // Whether p is inside the octant's arc; true for any point outside the octant.
 pub fn octant_contains(param: Octant, p: Point) -> bool
@@ -27,9 +53,7 @@ pub fn octant_contains(param: Octant, p: Point) -> bool
         return true;
     }
     if p.x <= param.circle_start.x {
-        let p_se = geometry::shrink(p, param.se_a);
-        let powers = exponential::pow_pair(p_se.x, p_se.y, param.se_n);
-        return powers.first + powers.second <= 1.0;
+        return superellipse_contains(p, param.se_a, param.se_n);
     }
     let circle_radius = geometry::distance_squared(param.circle_start, param.circle_center);
     geometry::length_squared(geometry::sub(p, param.circle_center)) < circle_radius
@@ -53,6 +77,8 @@ fn square_contains(param: Quadrant, norm_point: Point) -> bool
     is_within(x_delta, param.signed_scale.x) && is_within(y_delta, param.signed_scale.y)
 }
 
+// The top octant's powers are asked for here, and the right one's in `octant_contains`: called from two places, they are
+// compiled apart from the tests, which then are compiled in place.
 fn round_contains(param: Quadrant, norm_point: Point) -> bool
     ensures { λ r. ⌜ r ≡ roundContains param «norm_point» ⌝ }
 {
@@ -62,6 +88,12 @@ fn round_contains(param: Quadrant, norm_point: Point) -> bool
         x: from_right.y,
         y: from_right.x,
     };
+    if asks_powers(param.top, from_top) {
+        if superellipse_contains(from_top, param.top.se_a, param.top.se_n) {
+            return octant_contains(param.right, flipped);
+        }
+        return false;
+    }
     octant_contains(param.top, from_top) && octant_contains(param.right, flipped)
 }
 

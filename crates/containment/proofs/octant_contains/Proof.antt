@@ -1,4 +1,5 @@
 use Rattle.containment.specs.Contains.{octantContainsOf}
+use Rattle.containment.specs.Parts.{inSuperellipse}
 use borrow.Author.Needs.{needs}
 use Rattle.containment.proofs.octant_contains.Statement.{statement}
 use Rattle.containment.proofs.octant_contains.Tie as tie
@@ -15,17 +16,12 @@ returns-3 : tie.Need-returns-3
 unfolding octantContainsOf
 returns-3 c = rw (c .before .before .before .before .if1 .left, c .before .before .if2 .left, c .if3 .taken)
 
-shrink-requires : tie.Need-shrink-requires
-shrink-requires c κs = search needs
-
-pow-pair-requires : tie.Need-pow-pair-requires
-pow-pair-requires c κs = search needs
+superellipse-contains-requires : tie.Need-superellipse-contains-requires
+superellipse-contains-requires c κs = search needs
 
 returns-4 : tie.Need-returns-4
-unfolding octantContainsOf
-returns-4 c =
-    let t = c .before in
-    rw (t .before .before .before .before .before .before .before .before .before .if1 .left, t .before .before .before .before .before .before .before .if2 .left, t .before .before .before .before .before .if3 .left, t .before .before .if4 .taken, ← t .before .shrink .ensures, ← t .pow-pair .ensures .0, ← t .pow-pair .ensures .1)
+unfolding octantContainsOf inSuperellipse
+returns-4 c = rw (c .before .before .before .before .before .before .before .before .if1 .left, c .before .before .before .before .before .before .if2 .left, c .before .before .before .before .if3 .left, c .before .if4 .taken) (c .superellipse-contains .ensures)
 
 distance-squared-requires : tie.Need-distance-squared-requires
 distance-squared-requires c κs = search needs
@@ -47,8 +43,7 @@ octant-contains-spec =
     returns
     returns-2
     returns-3
-    shrink-requires
-    pow-pair-requires
+    superellipse-contains-requires
     returns-4
     distance-squared-requires
     sub-requires
