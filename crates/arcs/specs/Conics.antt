@@ -70,18 +70,16 @@ intersectionOf p1 k1 p2 k2 =
     (let x = (k1 ⊗ p1 .x ⊖ k2 ⊗ p2 .x ⊕ p2 .y ⊖ p1 .y) ⊘ (k1 ⊖ k2) in
     point x (k1 ⊗ (x ⊖ p1 .x) ⊕ p1 .y))
 
--- superellipse_conics: A on the flat side, H between, J where the circle starts; the controls are where the tangents meet
-unfoldable pub superellipseConicsOf : Octant → Float → SuperellipseConics
-superellipseConicsOf param yjOverA =
-    let n = param .«se_n» in
+-- the height over a at which the two conics meet, for the circle's start at yjOverA
+unfoldable pub meetingOf : ConicFactors → Float → Float
+meetingOf f yjOverA = (one ⊗ f .«yh_proportion» ⊕ yjOverA) ⊘ (f .«yh_proportion» ⊕ one)
+
+-- the two conics, by where they meet, the slope there, kH, and the slope where the circle starts, kJ
+unfoldable pub joinedOf : Octant → ConicFactors → Point → Float → Float → SuperellipseConics
+joinedOf param f h kH kJ =
     let a = point zero (param .«se_a») in
     let j = param .«circle_start» in
-    let f = superellipseConicFactorsOf n (j .x ⊘ param .«se_a») in
-    let yhOverA = (one ⊗ f .«yh_proportion» ⊕ yjOverA) ⊘ (f .«yh_proportion» ⊕ one) in
-    let h = point (powOf (one ⊖ powOf yhOverA n) (one ⊘ n) ⊗ param .«se_a») (yhOverA ⊗ param .«se_a») in
     let kA = zero in
-    let kJ = neg (powOf (j .x ⊘ j .y) (n ⊖ one)) in
-    let kH = neg (powOf (h .x ⊘ h .y) (n ⊖ one)) in
     record {
       c1 = intersectionOf a kA h kH;
       h = h;
@@ -91,3 +89,15 @@ superellipseConicsOf param yjOverA =
       weight2 = f .weight2;
       a = a;
     }
+
+-- superellipse_conics: A on the flat side, H between, J where the circle starts; the controls are where the tangents meet
+unfoldable pub superellipseConicsOf : Octant → Float → SuperellipseConics
+superellipseConicsOf param yjOverA =
+    let n = param .«se_n» in
+    let j = param .«circle_start» in
+    let f = superellipseConicFactorsOf n (j .x ⊘ param .«se_a») in
+    let yhOverA = meetingOf f yjOverA in
+    let h = point (powOf (one ⊖ powOf yhOverA n) (one ⊘ n) ⊗ param .«se_a») (yhOverA ⊗ param .«se_a») in
+    let kJ = neg (powOf (j .x ⊘ j .y) (n ⊖ one)) in
+    let kH = neg (powOf (h .x ⊘ h .y) (n ⊖ one)) in
+    joinedOf param f h kH kJ

@@ -3,7 +3,7 @@
 // Binary32 throughout, every operation rounded once, with the Rust's names and in its order.
 ghost use mathlib.Core.Path.{_≡_};
 ghost use Prim.Native.Nat.{_<_};
-ghost use Rattle.arcs.specs.Conics.{conicAt, cappedDegree, superellipseConicFactorsOf, intersectionOf, superellipseConicsOf};
+ghost use Rattle.arcs.specs.Conics.{conicAt, cappedDegree, superellipseConicFactorsOf, intersectionOf, meetingOf, joinedOf, superellipseConicsOf};
 ghost use Rattle.arcs.specs.Circle.{circularArcPointsOf};
 ghost use Rattle.arcs.specs.Placement.{flippedOf, applyOf};
 use geometry::Point;
@@ -45,6 +45,11 @@ pub struct SuperellipseConics {
     pub j: Point,
     pub weight2: f32,
     pub a: Point,
+}
+
+pub struct BothConics {
+    pub first: SuperellipseConics,
+    pub second: SuperellipseConics,
 }
 
 // The map from an octant's own space out to the shape's.
@@ -106,24 +111,16 @@ pub fn intersection(p1: Point, k1: f32, p2: Point, k2: f32) -> Point
     }
 }
 
-pub fn superellipse_conics(param: Octant, yj_over_a: f32) -> SuperellipseConics
-    ensures { λ r. ⌜ r ≡ superellipseConicsOf param «yj_over_a» ⌝ }
+// The conics of an octant whose first ends at h, by the slopes there and where the circle starts.
+fn joined(param: Octant, f: ConicFactors, h: Point, k_h: f32, k_j: f32) -> SuperellipseConics
+    ensures { λ r. ⌜ r ≡ joinedOf param f h «k_h» «k_j» ⌝ }
 {
-    let n = param.se_n;
     let a = Point {
         x: 0.0,
         y: param.se_a,
     };
     let j = param.circle_start;
-    let f = superellipse_conic_factors(n, j.x / param.se_a);
-    let yh_over_a = (1.0 * f.yh_proportion + yj_over_a) / (f.yh_proportion + 1.0);
-    let h = Point {
-        x: exponential::pow(1.0 - exponential::pow(yh_over_a, n), 1.0 / n) * param.se_a,
-        y: yh_over_a * param.se_a,
-    };
     let k_a = 0.0;
-    let k_j = -exponential::pow(j.x / j.y, n - 1.0);
-    let k_h = -exponential::pow(h.x / h.y, n - 1.0);
     SuperellipseConics {
         c1: intersection(a, k_a, h, k_h),
         h,
@@ -132,6 +129,43 @@ pub fn superellipse_conics(param: Octant, yj_over_a: f32) -> SuperellipseConics
         j,
         weight2: f.weight2,
         a,
+    }
+}
+
+// The height over a at which the conics meet.
+fn meeting(f: ConicFactors, yj_over_a: f32) -> f32
+    ensures { λ r. ⌜ r ≡ meetingOf f «yj_over_a» ⌝ }
+{
+    (1.0 * f.yh_proportion + yj_over_a) / (f.yh_proportion + 1.0)
+}
+
+// The octants p and q of a corner, in step: each power of the one is worked out beside the same power of the other.
+pub fn superellipse_conics(p: Octant, yp: f32, q: Octant, yq: f32) -> BothConics
+    ensures { λ r. ⌜ (r .first ≡ superellipseConicsOf p yp) × (r .second ≡ superellipseConicsOf q yq) ⌝ }
+{
+    let n = p.se_n;
+    let m = q.se_n;
+    let j = p.circle_start;
+    let i = q.circle_start;
+    let f = superellipse_conic_factors(n, j.x / p.se_a);
+    let g = superellipse_conic_factors(m, i.x / q.se_a);
+    let yh = meeting(f, yp);
+    let yg = meeting(g, yq);
+    let powers = exponential::pow_pair(yh, n, yg, m);
+    let roots = exponential::pow_pair(1.0 - powers.first, 1.0 / n, 1.0 - powers.second, 1.0 / m);
+    let h = Point {
+        x: roots.first * p.se_a,
+        y: yh * p.se_a,
+    };
+    let o = Point {
+        x: roots.second * q.se_a,
+        y: yg * q.se_a,
+    };
+    let at_j = exponential::pow_pair(j.x / j.y, n - 1.0, i.x / i.y, m - 1.0);
+    let at_h = exponential::pow_pair(h.x / h.y, n - 1.0, o.x / o.y, m - 1.0);
+    BothConics {
+        first: joined(p, f, h, -at_h.first, -at_j.first),
+        second: joined(q, g, o, -at_h.second, -at_j.second),
     }
 }
 

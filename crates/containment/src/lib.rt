@@ -19,7 +19,7 @@ fn superellipse_contains(p: Point, a: f32, n: f32) -> bool
     ensures { λ r. ⌜ r ≡ inSuperellipse p a n ⌝ }
 {
     let p_se = geometry::shrink(p, a);
-    let powers = exponential::pow_pair(p_se.x, p_se.y, n);
+    let powers = exponential::pow_pair(p_se.x, n, p_se.y, n);
     powers.first + powers.second <= 1.0
 }
 

@@ -16,6 +16,12 @@ pub struct Curves {
     pub conics: SuperellipseConics,
 }
 
+// Of both octants of a corner.
+struct BothCurves {
+    top: Curves,
+    right: Curves,
+}
+
 // A conic from the pen, and a cubic.
 pub struct ConicArc {
     pub ctrl: Point,
@@ -75,14 +81,28 @@ fn is_square(param: Quadrant) -> bool
     param.right.se_n < 2.0
 }
 
-fn solve(param: Octant) -> Curves
-    ensures { λ r. ⌜ r ≡ curvesOf param ⌝ }
+fn solve(top: Octant, right: Octant) -> BothCurves
+    ensures { λ r. ⌜ (r .top ≡ curvesOf top) × (r .right ≡ curvesOf right) ⌝ }
 {
-    let circle = arcs::circular_arc_points(param);
-    let conics = arcs::superellipse_conics(param, param.circle_start.y / param.se_a);
-    Curves {
-        circle: circle,
-        conics: conics,
+    let top_circle = arcs::circular_arc_points(top);
+    let right_circle = arcs::circular_arc_points(right);
+    let conics = arcs::superellipse_conics(
+        top,
+        top.circle_start.y / top.se_a,
+        right,
+        right.circle_start.y / right.se_a,
+    );
+    let top_conics = conics.first;
+    let right_conics = conics.second;
+    BothCurves {
+        top: Curves {
+            circle: top_circle,
+            conics: top_conics,
+        },
+        right: Curves {
+            circle: right_circle,
+            conics: right_conics,
+        },
     }
 }
 
@@ -201,8 +221,9 @@ fn draw_corner(param: Quadrant, reverse: bool, scale_sign: Point) -> Corner
     if is_square(param) {
         return square_corner(param, reverse, scale);
     }
-    let top = solve(param.top);
-    let right = solve(param.right);
+    let solved = solve(param.top, param.right);
+    let top = solved.top;
+    let right = solved.right;
     round_corner(param, top, right, reverse, scale)
 }
 
@@ -222,8 +243,9 @@ fn equal_corners(tr: Quadrant) -> Corners
             fourth: square_corner(tr, true, scale4),
         };
     }
-    let top = solve(tr.top);
-    let right = solve(tr.right);
+    let solved = solve(tr.top, tr.right);
+    let top = solved.top;
+    let right = solved.right;
     Corners {
         first: round_corner(tr, top, right, false, scale1),
         second: round_corner(tr, top, right, true, scale2),

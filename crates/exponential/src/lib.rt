@@ -172,7 +172,7 @@ pub fn pow(b: f32, y: f32) -> f32
     pow_main(b, y)
 }
 
-// Two powers of one exponent, worked out in step: each step of the one is made beside the same step of the other.
+// Two powers, worked out in step: each step of the one is made beside the same step of the other.
 pub struct Powers {
     pub first: f32,
     pub second: f32,
@@ -228,27 +228,26 @@ fn is_plain(b: f32, y: f32) -> bool
     !((b != b) | (y != y) | (b < 0.0) | (b == 1.0) | (y == 0.0) | (b == 0.0) | infinite)
 }
 
-fn main_pair(a: f32, b: f32, y: f32) -> Powers
+fn main_pair(a: f32, y: f32, b: f32, z: f32) -> Powers
     requires { ⌜ T (positive a) ⌝ ∗ ⌜ T (positive b) ⌝ }
-    ensures { λ r. ⌜ (r .first ≡ mainOf a y) × (r .second ≡ mainOf b y) ⌝ }
+    ensures { λ r. ⌜ (r .first ≡ mainOf a y) × (r .second ≡ mainOf b z) ⌝ }
 {
-    let w = ieee::widen(y);
     let l = ln_pair(ieee::widen(a), ieee::widen(b));
-    let e = exp_pair(w * l.first, w * l.second);
+    let e = exp_pair(ieee::widen(y) * l.first, ieee::widen(z) * l.second);
     Powers {
         first: ieee::narrow(e.first),
         second: ieee::narrow(e.second),
     }
 }
 
-pub fn pow_pair(a: f32, b: f32, y: f32) -> Powers
-    ensures { λ r. ⌜ (r .first ≡ powOf a y) × (r .second ≡ powOf b y) ⌝ }
+pub fn pow_pair(a: f32, y: f32, b: f32, z: f32) -> Powers
+    ensures { λ r. ⌜ (r .first ≡ powOf a y) × (r .second ≡ powOf b z) ⌝ }
 {
-    if is_plain(a, y) & is_plain(b, y) {
-        return main_pair(a, b, y);
+    if is_plain(a, y) & is_plain(b, z) {
+        return main_pair(a, y, b, z);
     }
     Powers {
         first: pow(a, y),
-        second: pow(b, y),
+        second: pow(b, z),
     }
 }

@@ -20,15 +20,12 @@ returns c = rw (← c .before .before .before .mul .ensures, ← c .before .befo
 solve-requires : tie.Need-solve-requires
 solve-requires c κs = search needs
 
-solve-requires-2 : tie.Need-solve-requires-2
-solve-requires-2 c κs = search needs
-
 round-corner-requires : tie.Need-round-corner-requires
 round-corner-requires c κs = search needs
 
 returns-2 : tie.Need-returns-2
 unfolding cornerCalls
-returns-2 c = rw (← c .before .before .before .before .before .mul .ensures, ← c .before .before .before .before .is-square .ensures, c .before .before .before .if1 .left, round-solved, ← c .before .before .solve .ensures, ← c .before .solve2 .ensures, ← c .round-corner .ensures)
+returns-2 c = rw (← c .before .before .before .before .before .before .mul .ensures, ← c .before .before .before .before .before .is-square .ensures, c .before .before .before .before .if1 .left, round-solved, ← c .before .before .before .solve .ensures .0, ← c .before .before .before .solve .ensures .1, ← c .round-corner .ensures)
 
 pub draw-corner-spec : {M : Type 1} → statement M
 draw-corner-spec =
@@ -39,6 +36,5 @@ draw-corner-spec =
     square-corner-requires
     returns
     solve-requires
-    solve-requires-2
     round-corner-requires
     returns-2)

@@ -38,9 +38,6 @@ returns c = rw (← c .before .before .before .before .before .before .before .b
 solve-requires : tie.Need-solve-requires
 solve-requires c κs = search needs
 
-solve-requires-2 : tie.Need-solve-requires-2
-solve-requires-2 c κs = search needs
-
 round-corner-requires : tie.Need-round-corner-requires
 round-corner-requires c κs = search needs
 
@@ -55,7 +52,7 @@ round-corner-requires-4 c κs = search needs
 
 returns-2 : tie.Need-returns-2
 unfolding equalCorners cornerCalls
-returns-2 c = rw (← c .before .before .before .before .before .before .before .before .before .before .before .mul .ensures, ← c .before .before .before .before .before .before .before .before .before .before .mul2 .ensures, ← c .before .before .before .before .before .before .before .before .before .mul3 .ensures, ← c .before .before .before .before .before .before .before .before .mul4 .ensures, ← c .before .before .before .before .before .before .before .is-square .ensures, c .before .before .before .before .before .before .if1 .left, round-solved, round-solved, round-solved, round-solved, ← c .before .before .before .before .before .solve .ensures, ← c .before .before .before .before .solve2 .ensures, ← c .before .before .before .round-corner .ensures, ← c .before .before .round-corner2 .ensures, ← c .before .round-corner3 .ensures, ← c .round-corner4 .ensures)
+returns-2 c = rw (← c .before .before .before .before .before .before .before .before .before .before .before .before .mul .ensures, ← c .before .before .before .before .before .before .before .before .before .before .before .mul2 .ensures, ← c .before .before .before .before .before .before .before .before .before .before .mul3 .ensures, ← c .before .before .before .before .before .before .before .before .before .mul4 .ensures, ← c .before .before .before .before .before .before .before .before .is-square .ensures, c .before .before .before .before .before .before .before .if1 .left, round-solved, round-solved, round-solved, round-solved, ← c .before .before .before .before .before .before .solve .ensures .0, ← c .before .before .before .before .before .before .solve .ensures .1, ← c .before .before .before .round-corner .ensures, ← c .before .before .round-corner2 .ensures, ← c .before .round-corner3 .ensures, ← c .round-corner4 .ensures)
 
 pub equal-corners-spec : {M : Type 1} → statement M
 equal-corners-spec =
@@ -72,7 +69,6 @@ equal-corners-spec =
     square-corner-requires-4
     returns
     solve-requires
-    solve-requires-2
     round-corner-requires
     round-corner-requires-2
     round-corner-requires-3

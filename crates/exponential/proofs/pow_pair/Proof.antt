@@ -25,8 +25,8 @@ module _ (c : tie.Then1) where
   first-plain : T (positive (start .args .a)) × (powOf (start .args .a) (start .args .y) ≡ mainOf (start .args .a) (start .args .y))
   first-plain = plain-is (start .args .a) (start .args .y) (sym (c .before .before .is-plain .ensures) ∙ tests .0)
 
-  second-plain : T (positive (start .args .b)) × (powOf (start .args .b) (start .args .y) ≡ mainOf (start .args .b) (start .args .y))
-  second-plain = plain-is (start .args .b) (start .args .y) (sym (c .before .is-plain2 .ensures) ∙ tests .1)
+  second-plain : T (positive (start .args .b)) × (powOf (start .args .b) (start .args .z) ≡ mainOf (start .args .b) (start .args .z))
+  second-plain = plain-is (start .args .b) (start .args .z) (sym (c .before .is-plain2 .ensures) ∙ tests .1)
 
 main-pair-requires : tie.Need-main-pair-requires
 main-pair-requires c κs = (first-plain c .0, second-plain c .0)
