@@ -1,10 +1,12 @@
 -- A corner asked for points of its own quadrant alone, or for mirrored ones, in one form.
-use mathlib.Core.Path.{_≡_, refl, sym, ap, _∙_}
+use mathlib.Core.Path.{_≡_, refl, sym, ap, ap₂, _∙_}
 use mathlib.Core.Bool.{Bool, true, false, cond, _&&_, _||_}
-use lib.Ieee.{lt}
+use lib.Ieee.{Float, lt}
+use Rattle.ieee.specs.Basic.{absOf}
 use Rattle.geometry.specs.declared.Point.{Point}
 use Rattle.geometry.specs.Point.{subOf, divOf, absPoint}
 use Rattle.octant.specs.Binary32.{zero}
+use Rattle.octant.specs.Octant.{point}
 use Rattle.quadrant.specs.declared.Quadrant.{Quadrant}
 use Rattle.containment.specs.Contains.{normContains, cornerContainsOf}
 
@@ -19,6 +21,11 @@ apart {ℓ} : {A : Type ℓ} (f : A → Bool) (check : Bool) (p q : A) → f (co
 apart f true p q = refl
 apart f false p q = refl
 
+by-coordinate : (check : Bool) (n : Point) → point (cond check (n .x) (absOf (n .x))) (cond check (n .y) (absOf (n .y))) ≡ cond check n (absPoint n)
+unfolding absPoint
+by-coordinate true n = refl
+by-coordinate false n = refl
+
 not-passed : (check out inside other : Bool) → (check && out) ≡ false → cond check inside other ≡ cond check (cond out true inside) other
 not-passed true true true other e = refl
 not-passed true true false other e = sym e
@@ -31,8 +38,8 @@ module _ (q : Quadrant) (p : Point) (check : Bool) (d n : Point) (t : Bool) (ed 
   unfolding cornerContainsOf
   corner-passed e = rw (← ed, ← en) (passed-over check (lt (n .x) zero || lt (n .y) zero) (normContains q n) (normContains q (absPoint n)) (sym et ∙ e))
 
-  pub corner-asked : (m : Point) (r : Bool) → m ≡ cond check n (absPoint n) → r ≡ normContains q m → t ≡ false → r ≡ cornerContainsOf q p check
+  pub corner-asked : (x y : Float) (r : Bool) → x ≡ cond check (n .x) (absOf (n .x)) → y ≡ cond check (n .y) (absOf (n .y)) → r ≡ normContains q (point x y) → t ≡ false → r ≡ cornerContainsOf q p check
   unfolding cornerContainsOf
-  corner-asked m r em er e =
+  corner-asked x y r ex ey er e =
       rw (← ed, ← en)
-      (er ∙ ap (normContains q) em ∙ apart (normContains q) check n (absPoint n) ∙ not-passed check (lt (n .x) zero || lt (n .y) zero) (normContains q n) (normContains q (absPoint n)) (sym et ∙ e))
+      (er ∙ ap₂ (λ (a b : Float). normContains q (point a b)) ex ey ∙ ap (normContains q) (by-coordinate check n) ∙ apart (normContains q) check n (absPoint n) ∙ not-passed check (lt (n .x) zero || lt (n .y) zero) (normContains q n) (normContains q (absPoint n)) (sym et ∙ e))

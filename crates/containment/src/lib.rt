@@ -4,7 +4,7 @@ ghost use mathlib.Core.Path.{_≡_};
 ghost use mathlib.Core.Bool.{true, cond, _&&_, _||_};
 ghost use Prim.Native.Nat.{_<_};
 ghost use lib.Ieee.{lt};
-ghost use Rattle.geometry.specs.Point.{absPoint};
+ghost use Rattle.ieee.specs.Basic.{absOf};
 ghost use Rattle.octant.specs.Binary32.{zero};
 ghost use Rattle.containment.specs.Contains.{octantContainsOf, within, squareContains, roundContains, squareCorner, normContains, cornerContainsOf, containsOf};
 ghost use Rattle.containment.specs.Parts.{inSuperellipse, asksPowers};
@@ -126,14 +126,15 @@ fn is_passed_over(p: Point, check_quadrant: bool) -> bool
     false
 }
 
-// A point mirrored into the quadrant, unless it is asked for points of its own alone.
-fn mirrored(p: Point, check_quadrant: bool) -> Point
-    ensures { λ r. ⌜ r ≡ cond «check_quadrant» p (absPoint p) ⌝ }
+// A coordinate mirrored into the quadrant, unless it is asked for points of its own alone. One coordinate at a time: a
+// point that is one of two would go through memory.
+fn mirrored(x: f32, check_quadrant: bool) -> f32
+    ensures { λ r. ⌜ r ≡ cond «check_quadrant» x (absOf x) ⌝ }
 {
     if check_quadrant {
-        return p;
+        return x;
     }
-    geometry::abs(p)
+    ieee::abs(x)
 }
 
 // One call of `norm_contains`, so that it is compiled in place and no record is copied for it.
@@ -144,7 +145,11 @@ pub fn corner_contains(param: Quadrant, p: Point, check_quadrant: bool) -> bool
     if is_passed_over(norm_point, check_quadrant) {
         return true;
     }
-    norm_contains(param, mirrored(norm_point, check_quadrant))
+    let own_point = Point {
+        x: mirrored(norm_point.x, check_quadrant),
+        y: mirrored(norm_point.y, check_quadrant),
+    };
+    norm_contains(param, own_point)
 }
 
 pub fn contains(shape: RoundSuperellipse, p: Point) -> bool

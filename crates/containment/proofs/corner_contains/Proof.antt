@@ -20,13 +20,16 @@ returns c =
 mirrored-requires : tie.Need-mirrored-requires
 mirrored-requires c κs = search needs
 
+mirrored-requires-2 : tie.Need-mirrored-requires-2
+mirrored-requires-2 c κs = search needs
+
 norm-contains-requires : tie.Need-norm-contains-requires
 norm-contains-requires c κs = search needs
 
 returns-2 : tie.Need-returns-2
 returns-2 c =
-    let a = c .before .before .before .before .before .before .args in
-    corner-asked (a .param) (a .p) (a .check-quadrant) _ _ _ (c .before .before .before .before .before .sub .ensures) (c .before .before .before .before .div .ensures) (c .before .before .before .is-passed-over .ensures) _ _ (c .before .mirrored .ensures) (c .norm-contains .ensures) (c .before .before .if1 .left)
+    let a = c .before .before .before .before .before .before .before .args in
+    corner-asked (a .param) (a .p) (a .check-quadrant) _ _ _ (c .before .before .before .before .before .before .sub .ensures) (c .before .before .before .before .before .div .ensures) (c .before .before .before .before .is-passed-over .ensures) _ _ _ (c .before .before .mirrored .ensures) (c .before .mirrored2 .ensures) (c .norm-contains .ensures) (c .before .before .before .if1 .left)
 
 pub corner-contains-spec : {M : Type 1} → statement M
 corner-contains-spec =
@@ -37,5 +40,6 @@ corner-contains-spec =
     is-passed-over-requires
     returns
     mirrored-requires
+    mirrored-requires-2
     norm-contains-requires
     returns-2)
