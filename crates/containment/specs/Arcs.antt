@@ -48,6 +48,6 @@ missesOf a same p =
     let n = divOf (subOf p (a .offset)) (a .«signed_scale») in
     cond same (beyondArcs a (absPoint n)) (not (lt (n .x) zero || lt (n .y) zero) && beyondArcs a n)
 
--- the corners in the order of `nearest`
+-- of the four corners: top right, bottom right, top left, bottom left
 unfoldable pub arcsIn : RoundSuperellipse → List Arcs
 arcsIn shape = arcsOf (shape .«top_right») ∷ arcsOf (shape .«bottom_right») ∷ arcsOf (shape .«top_left») ∷ arcsOf (shape .«bottom_left») ∷ []

@@ -1,8 +1,7 @@
 // Whether a shape contains a point, by the curve itself. It refuses nothing: a NaN follows IEEE comparison.
 // Binary32 throughout, every operation rounded once, with the Rust's names and in its order.
 ghost use mathlib.Core.Path.{_≡_};
-ghost use mathlib.Core.Bool.{true, cond, _&&_, _||_};
-ghost use Prim.Native.Nat.{_<_};
+ghost use mathlib.Core.Bool.{cond, _&&_, _||_};
 ghost use lib.Ieee.{lt};
 ghost use Rattle.ieee.specs.Basic.{absOf};
 ghost use Rattle.octant.specs.Binary32.{zero};
@@ -222,7 +221,7 @@ fn arcs_of(q: Quadrant) -> Arcs
     }
 }
 
-// The corners' arcs, in the order of `nearest`.
+// The corners' arcs: top right, bottom right, top left, bottom left.
 pub fn all_arcs(shape: RoundSuperellipse) -> [Arcs; 4]
     ensures { λ r. ⌜ r ≡ arcsIn shape ⌝ }
 {
@@ -231,26 +230,6 @@ pub fn all_arcs(shape: RoundSuperellipse) -> [Arcs; 4]
     let top_left = arcs_of(shape.top_left);
     let bottom_left = arcs_of(shape.bottom_left);
     [top_right, bottom_right, top_left, bottom_left]
-}
-
-fn flag(c: bool) -> usize
-    ensures { λ r. ⌜ r < 2 ⌝ }
-{
-    if c {
-        return 1;
-    }
-    0
-}
-
-// Which corner's arcs to try for p: those of the side of `center` where p lies. Another corner would cost time, never
-// a wrong answer.
-pub fn nearest(same: bool, center: Point, p: Point) -> usize
-    ensures { λ r. ⌜ (r < 4) × (same ≡ true → r ≡ 0) ⌝ }
-{
-    if same {
-        return 0;
-    }
-    2 * flag(p.x < center.x) + flag(p.y >= center.y)
 }
 
 // All comparisons are made, with no branch between them: which of them decides is hard to foresee.

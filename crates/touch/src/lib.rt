@@ -64,6 +64,26 @@ pub fn shape_of(button: Button) -> Answer
     )
 }
 
+fn flag(c: bool) -> usize
+    ensures { λ r. ⌜ r < 2 ⌝ }
+{
+    if c {
+        return 1;
+    }
+    0
+}
+
+// Which corner's arcs to try for p: those of the side of `center` where p lies. Another corner would cost time, never
+// a wrong answer.
+fn nearest(same: bool, center: Point, p: Point) -> usize
+    ensures { λ r. ⌜ (r < 4) × (same ≡ true → r ≡ 0) ⌝ }
+{
+    if same {
+        return 0;
+    }
+    2 * flag(p.x < center.x) + flag(p.y >= center.y)
+}
+
 // Where a touch goes, with one shape more looked at: the first that contains it keeps it. Nearly every touch is told by
 // the arcs of one corner to lie outside.
 fn settled(found: u32, index: u32, shape: RoundSuperellipse, arcs: Arcs, p: Point) -> u32
@@ -96,7 +116,7 @@ fn mark(shape: RoundSuperellipse, index: u32, points: &[f32], results: &mut [u32
             x: points[2 * i],
             y: points[2 * i + 1],
         };
-        let near = arcs[containment::nearest(same, first.offset, p)];
+        let near = arcs[nearest(same, first.offset, p)];
         results[i] = settled(results[i], index, shape, near, p);
         i += 1;
     }

@@ -2,8 +2,8 @@ use mathlib.Core.Path.{sym, _∙_}
 use mathlib.Core.Bool.{true≢false}
 use native.Mathlib.Omega.{arith}
 use borrow.Author.Needs.{needs}
-use Rattle.containment.proofs.nearest.Statement.{statement}
-use Rattle.containment.proofs.nearest.Tie as tie
+use Rattle.touch.proofs.nearest.Statement.{statement}
+use Rattle.touch.proofs.nearest.Tie as tie
 
 returns : tie.Need-returns
 returns c = search needs
