@@ -52,7 +52,7 @@ fn number<T>(answer: &Result<T, String>) -> u32 {
 }
 
 /// What is counted, in the order in which it is printed.
-const KINDS: [&str; 22] = [
+const KINDS: [&str; 23] = [
     "shapes made",
     "shapes refused",
     "verdicts of consistency",
@@ -65,6 +65,7 @@ const KINDS: [&str; 22] = [
     "outline calls refused",
     "conic calls",
     "conic calls refused",
+    "conics at the bound of flatness",
     "other calls",
     "other calls refused",
     "needs of conics",
@@ -127,6 +128,9 @@ fn round(inputs: &mut Inputs, tally: &mut Tally) {
     }
     for _ in 0..4000 {
         paths::list(inputs, tally);
+    }
+    for _ in 0..200 {
+        paths::flat_bound(inputs, tally);
     }
     for _ in 0..4000 {
         paths::stream(inputs, tally);

@@ -194,6 +194,59 @@ pub fn list(inputs: &mut Inputs, tally: &mut Tally) {
     read_all(inputs, &path, &stream, tally);
 }
 
+/// How many verbs a conic from `from` adds.
+fn quads(from: Vec2, ctrl: Vec2, to: Vec2, weight: f32) -> usize {
+    let mut stream = Stream::fresh(80, 320);
+    let _ = stream.build(Call::Move(from));
+    let _ = stream.build(Call::Conic(ctrl, to, weight));
+    stream.record.verbs - 1
+}
+
+/// Conics with weights about the one from which on the oracle halves them: the library decides without
+/// roots whether a conic is flat, except next to that bound.
+pub fn flat_bound(inputs: &mut Inputs, tally: &mut Tally) {
+    let scale = inputs.pick(&[1e-18, 1e-12, 1e-3, 1.0, 1.0, 1.0, 30.0, 1e9, 1e18]);
+    let mut point = || {
+        Vec2::new(
+            inputs.within(-500.0, 500.0) * scale,
+            inputs.within(-500.0, 500.0) * scale,
+        )
+    };
+    let (from, ctrl, to) = (point(), point(), point());
+    let far = inputs.pick(&[1e-3f32, 0.3, 3.0, 1e3]);
+    let (mut flat, mut halved) = (1f32.to_bits(), far.to_bits());
+    if quads(from, ctrl, to, far) == 1 {
+        return;
+    }
+    while flat.abs_diff(halved) > 1 {
+        let middle = (flat + halved) / 2;
+        match quads(from, ctrl, to, f32::from_bits(middle)) {
+            1 => flat = middle,
+            _ => halved = middle,
+        }
+    }
+    for bits in flat.min(halved) - 12..flat.min(halved) + 14 {
+        let (mut path, mut stream) = begin(
+            inputs,
+            80,
+            320,
+            Record {
+                verbs: 1,
+                points: 1,
+                start: from,
+                pen: from,
+            },
+        );
+        call(
+            &mut path,
+            &mut stream,
+            &Call::Conic(ctrl, to, f32::from_bits(bits)),
+            tally,
+        );
+        tally.count("conics at the bound of flatness", 1);
+    }
+}
+
 /// One reading by both. The next cursor, while there is one.
 fn read(
     inputs: &mut Inputs,
