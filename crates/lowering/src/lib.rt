@@ -87,21 +87,8 @@ fn push_conic(
     let a = h.left_ctrl;
     let m = h.mid;
     let b = h.right_ctrl;
-    let l = push_conic(
-        v,
-        p,
-        verbs,
-        points,
-        x0,
-        y0,
-        a.x,
-        a.y,
-        m.x,
-        m.y,
-        h.weight,
-        d,
-        start,
-    );
+    let u = h.weight;
+    let l = push_conic(v, p, verbs, points, x0, y0, a.x, a.y, m.x, m.y, u, d, start);
     let r = push_conic(
         v + l.count,
         p + 2 * l.count,
@@ -113,7 +100,7 @@ fn push_conic(
         b.y,
         x2,
         y2,
-        h.weight,
+        u,
         d,
         start + (1 << d),
     );

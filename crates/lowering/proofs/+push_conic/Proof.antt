@@ -129,16 +129,16 @@ module _ (t : ℕ) where
       let r : length (halve d (h .right) (a .start + (1 * 2 ^ d) % 2 ^ 64)) ≡ length (halve d (h .right) (a .start + 2 ^ d)) = ap (λ (k : ℕ). length (halve d (h .right) (a .start + k))) (half (c .before .before .before .before .before .before .before .before .before .before .before .before .before .before)) in
       omega (arith, c .before .before .before .before .before .before .before .before .before .before .before .before .before .before .before .before .before .before .before .before .pre, c .before .before .before .before .before .before .before .before .before .before .before .before .before .before .before .before .before .if1 .left, both (c .before .before .before .before .before .before .before .before .before .before .before .before .before .before) .many, half (c .before .before .before .before .before .before .before .before .before .before .before .before .before .before), half-span (c .before .before .before .before .before .before .before .before .before .before .before .before .before .before .before .before .before .before .before .before .args .depth) (c .before .before .before .before .before .before .before .before .before .before .before .before .before .before .before .before .before .if1 .left), c .before .before .before .before .before .before .before .before .push-conic .ensures .1 .0, r, c .before .before .before .before .before .before .before .before .push-conic .kept)
 
-  add-t37 : lts.Need-add-t37 (claims t) (at t) reads.Post
-  add-t37 c =
+  add-t38 : lts.Need-add-t38 (claims t) (at t) reads.Post
+  add-t38 c =
       let a = c .before .before .before .before .before .before .before .before .before .before .before .before .before .before .before .before .before .before .before .before .before .before .before .before .before .before .before .args in
       let d = a .depth - 1 in
       let h = halvesOf (conicAt (a .x0) (a .y0) (a .x1) (a .y1) (a .x2) (a .y2) (a .w)) (c .before .before .before .before .before .before .before .before .before .before .before .before .before .before .before .before .before .before .before .before .before .subdivide .result) in
       let r : c .before .before .before .before .before .before .push-conic2 .result .count ≡ length (halve d (h .right) (a .start + 2 ^ d)) = c .before .before .before .before .before .before .push-conic2 .ensures .1 .0 ∙ ap (λ (k : ℕ). length (halve d (h .right) (a .start + k))) (half (c .before .before .before .before .before .before .before .before .before .before .before .before .before .before .before .before .before .before .before .before .before)) in
       omega (arith, c .before .before .before .before .before .before .before .before .before .before .before .before .before .before .before .before .before .before .before .before .before .before .before .before .before .before .before .pre, c .before .before .before .before .before .before .before .before .before .before .before .before .before .before .before .before .before .before .before .before .before .before .before .before .before .before .before .good, both (c .before .before .before .before .before .before .before .before .before .before .before .before .before .before .before .before .before .before .before .before .before) .many, c .before .before .before .before .before .before .before .before .before .before .before .before .before .before .before .push-conic .ensures .1 .0, r)
 
-  add-t46 : lts.Need-add-t46 (claims t) (at t) reads.Post
-  add-t46 c =
+  add-t47 : lts.Need-add-t47 (claims t) (at t) reads.Post
+  add-t47 c =
       let a = c .before .before .before .before .before .before .before .before .before .before .before .before .before .before .before .before .before .before .before .before .before .before .before .before .before .before .before .before .before .args in
       let d = a .depth - 1 in
       let h = halvesOf (conicAt (a .x0) (a .y0) (a .x1) (a .y1) (a .x2) (a .y2) (a .w)) (c .before .before .before .before .before .before .before .before .before .before .before .before .before .before .before .before .before .before .before .before .before .before .before .subdivide .result) in
@@ -189,8 +189,8 @@ pub +push-conic-spec : {M : Type 1} → statement M
     (shl-push-conic t)
     (add-push-conic-3 t)
     (push-conic-requires-2 t)
-    (add-t37 t)
-    (add-t46 t)
+    (add-t38 t)
+    (add-t47 t)
     (same-length-5 t)
     (same-length-6 t)
     (returns-3 t)
