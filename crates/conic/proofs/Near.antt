@@ -1,4 +1,4 @@
--- Two lengths compared without their roots: `far` and `near` are what the tests of `is_near` say of `nearOf`. Assumes nothing.
+-- Two lengths compared without their roots: `far` and `near` are what the tests of `is_flat` say of `nearOf`. Assumes nothing.
 use mathlib.Core.Path.{_≡_, refl, sym, ap, _∙_, subst}
 use mathlib.Core.Logic.{_⊎_, inl, inr}
 use Prim.Native.Nat.{ℕ, zero, suc, _+_, _*_, _^_, _≤_, _<_, zero-le, suc-le-suc}
