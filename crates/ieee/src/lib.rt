@@ -120,19 +120,10 @@ pub fn narrow(x: f64) -> f32
 
 // c * t / 2^25, for the cubics.
 fn along(c: u64, t: u64) -> u64
-    requires { ⌜ (c < 2 ^ 32) × (t < 2 ^ 18) ⌝ }
-    ensures { λ r. ⌜ r < 2 ^ 25 ⌝ }
+    requires { ⌜ (c < 2 ^ 33) × (t < 2 ^ 18) ⌝ }
+    ensures { λ r. ⌜ r < 2 ^ 26 ⌝ }
 {
     (c * t) >> 25
-}
-
-// r / 2^8, times the root of 2 unless `odd` is 1: the factor is one of √2 * 2^31 and 2^31.
-fn times_root_of_two(r: u64, odd: u64) -> u64
-    requires { ⌜ (r < 2 ^ 32) × (odd < 2) ⌝ }
-    ensures { λ r. ⌜ r < 2 ^ 25 ⌝ }
-{
-    let factor = 0xb504_f334 - odd * 0x3504_f334;
-    (r * factor + 0x40_0000_0000) >> 39
 }
 
 // A guess at the root of d * 2^24, or of d * 2^23 where `odd` is 1. No proof rests on its being near:
@@ -141,12 +132,12 @@ fn root_guess(d: u64, odd: u64) -> u64
     requires { ⌜ odd < 2 ⌝ }
     ensures { λ r. ⌜ r < 2 ^ 25 ⌝ }
 {
-    let i = (d >> 18) % 32;
+    let i = odd * 32 + (d >> 18) % 32;
     let t = d % 0x4_0000;
     let c = cubic::cubic_at(i);
     let bend = c.2 - along(c.3, t);
     let slope = c.1 - along(bend, t);
-    times_root_of_two((c.0 + slope * t) >> 24, odd)
+    (c.0 + slope * t) >> 32
 }
 
 // The first whole number from r on that is no longer too low for the root of w.
@@ -173,19 +164,20 @@ fn lowered(w: u64, r: u64) -> u64
     r
 }
 
-// The root of w to the nearest whole number, from a guess: it is never half way between two.
+// The root of w to the nearest whole number, from a guess: it is never half way between two. The guess
+// is right for the 2 * guess numbers w up to `top`, which one test tells.
 fn round_root(w: u64, guess: u64) -> u64
     requires { ⌜ (0 < w) × (w < 2 ^ 48) × (guess < 2 ^ 25) ⌝ }
     ensures { λ r. ⌜ (r * r < w + r) × (w ≤ r * r + r) ⌝ }
 {
-    let square = guess * guess;
-    if square + guess < w {
+    let top = guess * guess + guess;
+    if std::num::wrapping_sub_u64(top, w) < 2 * guess {
+        return guess;
+    }
+    if top < w {
         return raised(w, guess);
     }
-    if square >= w + guess {
-        return lowered(w, guess);
-    }
-    guess
+    lowered(w, guess)
 }
 
 // The pattern of the f32 nearest to the root of d * 2^(f - 174).
@@ -205,6 +197,12 @@ pub fn sqrt(x: f32) -> f32
         return 0.0 / 0.0;
     }
     let bits: u32 = f32::to_bits(x);
+    if std::num::wrapping_sub_u32(bits, 0x80_0000) < 0x7f00_0000 {
+        return f32::from_bits(rooted(
+            (bits % 0x80_0000 + 0x80_0000) as u64,
+            (bits / 0x80_0000 + 24) as u64,
+        ));
+    }
     if bits >= 0x8000_0000 {
         if bits == 0x8000_0000 {
             return x;
@@ -217,12 +215,6 @@ pub fn sqrt(x: f32) -> f32
     if bits == 0 {
         return x;
     }
-    if bits < 0x80_0000 {
-        let z: u32 = u32::leading_zeros(bits) - 8;
-        return f32::from_bits(rooted((bits << z) as u64, (25 - z) as u64));
-    }
-    f32::from_bits(rooted(
-        (bits % 0x80_0000 + 0x80_0000) as u64,
-        (bits / 0x80_0000 + 24) as u64,
-    ))
+    let z: u32 = u32::leading_zeros(bits) - 8;
+    f32::from_bits(rooted((bits << z) as u64, (25 - z) as u64))
 }
