@@ -1,3 +1,4 @@
 pub mod Basic
+pub mod Cubic
 pub mod Narrow
 pub mod Sqrt

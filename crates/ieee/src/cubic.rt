@@ -6,13 +6,13 @@
 // is near the root of d * 2^24, or of d * 2^23 where the exponent is odd: each cubic passes through it at
 // the four Chebyshev nodes of its part of the range, and c.0 has a half more, for rounding. No proof rests
 // on these numbers but on their size: a wrong one costs time, never a digit. They are branches and no
-// array, since an array would be written to the stack at each call.
-ghost use Prim.Native.Nat.{_≤_, _<_, _^_};
+// array, since an array would be written to the stack at each call; the two functions compile to one table.
+ghost use Rattle.ieee.specs.Cubic.{Sized};
 
 pub struct Cubic(pub u64, pub u64, pub u64, pub u64);
 
 pub fn cubic_at(i: u64) -> Cubic
-    ensures { λ r. ⌜ (r .0 < 2 ^ 56) × (2 ^ 26 ≤ r .1) × (r .1 < 2 ^ 32) × (2 ^ 26 ≤ r .2) × (r .2 < 2 ^ 32) × (r .3 < 2 ^ 33) ⌝ }
+    ensures { λ r. ⌜ Sized (r .0) (r .1) (r .2) (r .3) ⌝ }
 {
     match i {
         0 => Cubic(0xb504f3b4d28dad, 0xb504ec6d, 0xb4f3f298, 0x15c4f786c),
@@ -47,6 +47,14 @@ pub fn cubic_at(i: u64) -> Cubic
         29 => Cubic(0xf9ed913a8ac367, 0x831c18d7, 0x44c595f8, 0x46b4ab73),
         30 => Cubic(0xfbf7dfdc80533a, 0x820c5191, 0x431d6c20, 0x43e94ac6),
         31 => Cubic(0xfdfdfc75f856ce, 0x8103097e, 0x41860548, 0x4144e14b),
+        _ => odd_cubic_at(i),
+    }
+}
+
+fn odd_cubic_at(i: u64) -> Cubic
+    ensures { λ r. ⌜ Sized (r .0) (r .1) (r .2) (r .3) ⌝ }
+{
+    match i {
         32 => Cubic(0x8000008099381f, 0x7ffffb35, 0x7ff3fa3e, 0xf64aec49),
         33 => Cubic(0x81fc10323f8159, 0x7e0badd2, 0x7a2f144c, 0xe452172d),
         34 => Cubic(0x83f07bb5fba562, 0x7c2d9d41, 0x74d5e7bb, 0xd421e77d),
