@@ -190,6 +190,7 @@ fn rooted(d: u64, f: u64) -> u32
     ((f + 101) / 2 * 0x80_0000 + r) as u32
 }
 
+// The positive normal numbers, the usual case, are told first, by one test of their range.
 pub fn sqrt(x: f32) -> f32
     ensures { λ r. ⌜ r ≡ sqrtOf binary32 x ⌝ }
 {
