@@ -1,24 +1,22 @@
--- `flatOf`, by the weight and by the two squared lengths. Assumes nothing.
-use mathlib.Core.Path.{_≡_, sym, ap₂, subst, _∙_}
-use mathlib.Core.Bool.{Bool, true, false}
+-- What the squared lengths tell of `flatOf`. Assumes nothing.
+use mathlib.Core.Path.{_≡_, refl, sym, subst, _∙_}
+use mathlib.Core.Bool.{Bool, true, false, cond}
 use lib.Dec.{T}
-use lib.Ieee.{Float, binary32, sub, mul, lt, le, fits}
+use lib.Ieee.{binary32, mul, lt, le, fits}
 use lib.Ieee.Fits.{add-fits}
-use Rattle.ieee.specs.Basic.{absOf}
 use Rattle.geometry.specs.declared.Point.{Point}
-use Rattle.geometry.specs.Point.{one, subOf, lengthSquaredOf, lengthOf}
+use Rattle.geometry.specs.Point.{subOf, lengthSquaredOf, lengthOf}
 use Rattle.conic.specs.declared.Conic.{Conic}
-use Rattle.conic.specs.Conic.{thousandth, conicMid, quadMid, distanceOf, chordOf, nearOf, flatOf}
-use Rattle.conic.proofs.Near.{tiny, nought, less, more, far, near}
+use Rattle.conic.specs.declared.Flatness.{Flatness}
+use Rattle.conic.specs.declared.Flatness.the-variants.{Flat, Curved, Unsure}
+use Rattle.conic.specs.Conic.{zero, tiny, less, more, conicMid, quadMid, distanceOf, chordOf, nearOne, nearOf, flatOf, flatnessOf}
+use Rattle.conic.proofs.Near.{far, near}
 
-abbrev pub nearOne : Conic → Bool
-nearOne c = le (absOf (sub binary32 (c .weight) one)) thousandth
-
-pub flat-one : (c : Conic) → nearOne c ≡ true → flatOf c ≡ true
+flat-one : (c : Conic) → nearOne c ≡ true → flatOf c ≡ true
 unfolding flatOf
 flat-one c h = rw h
 
-pub flat-else : (c : Conic) → nearOne c ≡ false → flatOf c ≡ nearOf (distanceOf c) (chordOf c)
+flat-else : (c : Conic) → nearOne c ≡ false → flatOf c ≡ nearOf (distanceOf c) (chordOf c)
 unfolding flatOf nearOf lengthOf
 flat-else c h = rw h
 
@@ -26,19 +24,29 @@ squared-fits : (p : Point) → T (fits binary32 (lengthSquaredOf p))
 unfolding lengthSquaredOf
 squared-fits p = add-fits binary32 (mul binary32 (p .x) (p .x)) (mul binary32 (p .y) (p .y))
 
--- by the tests of the squared lengths d and e that the code has
-module _ (c : Conic) (d e : Float) (i : d ≡ distanceOf c) (j : e ≡ chordOf c) (w : nearOne c ≡ false) where
-  told : (b : Bool) → nearOf d e ≡ b → b ≡ flatOf c
-  told b h = sym (flat-else c w ∙ sym (ap₂ nearOf i j) ∙ h)
+-- flat, not flat, or as the roots decide
+abbrev pub Tells : Conic → Flatness → Type 0
+Tells c Flat = flatOf c ≡ true
+Tells c Curved = flatOf c ≡ false
+Tells c Unsure = flatOf c ≡ nearOf (distanceOf c) (chordOf c)
 
-  d-fits : T (fits binary32 d)
-  d-fits = subst (λ (x : Float). T (fits binary32 x)) (sym i) (squared-fits (subOf (conicMid c) (quadMid c)))
+holds : (b : Bool) → b ≡ true → T b
+holds b e = subst T (sym e) tt
 
-  e-fits : T (fits binary32 e)
-  e-fits = subst (λ (x : Float). T (fits binary32 x)) (sym j) (squared-fits (subOf (c .to) (c .from)))
+-- by the results of the tests, in their order
+module _ (c : Conic) where
+  tells : (a b p q r : Bool) → nearOne c ≡ a → lt tiny (chordOf c) ≡ b → le (distanceOf c) (mul binary32 less (chordOf c)) ≡ p → le zero (distanceOf c) ≡ q
+      → lt (mul binary32 more (chordOf c)) (distanceOf c) ≡ r → Tells c (cond a Flat (cond b (cond p (cond q Flat Unsure) (cond r Curved Unsure)) Unsure))
+  tells true b p q r ea eb ep eq er = flat-one c ea
+  tells false true true true r ea eb ep eq er =
+      flat-else c ea ∙ near (distanceOf c) (chordOf c) (squared-fits (subOf (conicMid c) (quadMid c))) (squared-fits (subOf (c .to) (c .from))) (holds _ eb) (holds _ eq) (holds _ ep)
+  tells false true true false r ea eb ep eq er = flat-else c ea
+  tells false true false q true ea eb ep eq er =
+      flat-else c ea ∙ far (distanceOf c) (chordOf c) (squared-fits (subOf (conicMid c) (quadMid c))) (squared-fits (subOf (c .to) (c .from))) (holds _ eb) (holds _ er)
+  tells false true false q false ea eb ep eq er = flat-else c ea
+  tells false false p q r ea eb ep eq er = flat-else c ea
 
-  pub flat-near : T (lt tiny e) → T (le nought d) → T (le d (mul binary32 less e)) → true ≡ flatOf c
-  flat-near s t u = told true (near d e d-fits e-fits s t u)
-
-  pub flat-far : T (lt tiny e) → T (lt (mul binary32 more e) d) → false ≡ flatOf c
-  flat-far s u = told false (far d e d-fits e-fits s u)
+-- what code learns that has f for a conic's flatness
+pub flatness-tells : (c : Conic) (f : Flatness) → flatnessOf c ≡ f → Tells c f
+unfolding flatnessOf
+flatness-tells c f e = subst (Tells c) e (tells c _ _ _ _ _ refl refl refl refl refl)

@@ -4,6 +4,6 @@ pub mod Tiling
 pub mod Bits
 pub mod Whole
 mod Weight
-mod Flat
+pub mod Flat
 pub mod Margins
 pub mod Near

@@ -20,7 +20,7 @@ use Rattle.rounding.specs.Meaning.{fraction, root}
 use Rattle.rounding.proofs.Values.{split-le, fits-under, units-under}
 use Rattle.rounding.proofs.Meets.{meets}
 use Rattle.rounding.proofs.Relative.{Relative, sqrt-relative, scaled-relative}
-use Rattle.conic.specs.Conic.{thousandth, nearOf}
+use Rattle.conic.specs.Conic.{thousandth, tiny, less, more, nearOf}
 use Rattle.conic.proofs.Margins.{no-room, below-product, above-product, below-scaled, above-scaled, small-product, small-root}
 
 -- the errors' factor is next / hidden, and 1.0 is `unit` times the smallest value
@@ -43,15 +43,6 @@ part c = mul binary32 thousandth (length c)
 -- ---- 0.0, 1e-30, 1.000002e-6 and 9.99998e-7, and the values of these and of a thousandth
 abbrev pub nought : Float
 nought = ofBits binary32 0
-
-abbrev pub tiny : Float
-tiny = ofBits binary32 0x0da2_4260
-
-abbrev pub more : Float
-more = ofBits binary32 0x3586_37cf
-
-abbrev pub less : Float
-less = ofBits binary32 0x3586_37ab
 
 tiny-value : HasValue tiny false 332307 (2 ^ 118)
 unfolding ofBits

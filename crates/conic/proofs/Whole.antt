@@ -50,7 +50,8 @@ unfolding lastTarget
 last-append p [] ys = refl
 last-append p (x ∷ xs) ys = last-append (x .quad .to) xs ys
 
-halve-ends : (n : ℕ) (c : Conic) (start : ℕ) (p : Point) → lastTarget p (halve n c start) ≡ c .to
+-- it ends on its target, wherever it starts
+pub halve-ends : (n : ℕ) (c : Conic) (start : ℕ) (p : Point) → lastTarget p (halve n c start) ≡ c .to
 unfolding lastTarget splitOf
 halve-ends =
     halve-ind (λ n c start ps. (p : Point) → lastTarget p ps ≡ c .to) (λ n c start p. refl)

@@ -11,6 +11,8 @@ use Rattle.conic.specs.declared.Conic.{Conic}
 use Rattle.conic.specs.declared.Subdivision.{Subdivision}
 use Rattle.conic.specs.declared.Lowered.{Lowered}
 use Rattle.conic.specs.declared.Lowered.the-variants.{Line, Curve}
+use Rattle.conic.specs.declared.Flatness.{Flatness}
+use Rattle.conic.specs.declared.Flatness.the-variants.{Flat, Curved, Unsure}
 
 -- 0.0, 2.0, 0.5, 0.25 and 1e-3
 abbrev pub zero : Float
@@ -65,12 +67,40 @@ nearOf d c =
     let chord = sqrtOf binary32 c in
     cond (lt zero chord) (le (sqrtOf binary32 d) (mul binary32 thousandth chord)) false
 
+-- the weight is near 1
+abbrev pub nearOne : Conic → Bool
+nearOne c = le (absOf (sub binary32 (c .weight) one)) thousandth
+
 -- flat enough for one quad: the weight is near 1, or the two middles are near each other, measured by a chord above 0
 unfoldable pub flatOf : Conic → Bool
 flatOf c =
-    cond (le (absOf (sub binary32 (c .weight) one)) thousandth) true
+    cond (nearOne c) true
     (let chord = lengthOf (subOf (c .to) (c .from)) in
     cond (lt zero chord) (le (lengthOf (subOf (conicMid c) (quadMid c))) (mul binary32 thousandth chord)) false)
+
+-- the bounds within which the squared lengths decide: 1e-30, 9.99998e-7 and 1.000002e-6
+abbrev pub tiny : Float
+tiny = ofBits binary32 0x0da2_4260
+
+abbrev pub less : Float
+less = ofBits binary32 0x3586_37ab
+
+abbrev pub more : Float
+more = ofBits binary32 0x3586_37cf
+
+-- the same without roots, where they are not needed
+unfoldable pub flatnessOf : Conic → Flatness
+flatnessOf c =
+    cond (nearOne c) Flat
+    (let chord = chordOf c in
+    let distance = distanceOf c in
+    cond (lt tiny chord)
+    (cond (le distance (mul binary32 less chord)) (cond (le zero distance) Flat Unsure) (cond (lt (mul binary32 more chord) distance) Curved Unsure))
+    Unsure)
+
+-- the weight of both halves of a conic with this weight
+unfoldable pub halfWeightOf : Float → Float
+halfWeightOf w = sqrtOf binary32 (mul binary32 (add binary32 one w) half)
 
 pub record Halves : Type 0 where
   pub left : Conic
@@ -85,15 +115,15 @@ splitOf c =
     let right = scaleOf (addOf weighted (c .to)) scale in
     let sum = addOf (addOf (c .from) (scaleOf (c .ctrl) (mul binary32 two (c .weight)))) (c .to) in
     let mid = scaleOf sum (mul binary32 half scale) in
-    let weight = sqrtOf binary32 (mul binary32 (add binary32 one (c .weight)) half) in
+    let weight = halfWeightOf (c .weight) in
     record {
       left = record { from = c .from; ctrl = left; to = mid; weight = weight };
       right = record { from = mid; ctrl = right; to = c .to; weight = weight };
     }
 
--- the halves of c that a subdivision has
-abbrev pub halvesOf : Conic → Subdivision → Halves
-halvesOf c s = record {
-  left = record { from = c .from; ctrl = s .«left_ctrl»; to = s .mid; weight = s .weight };
-  right = record { from = s .mid; ctrl = s .«right_ctrl»; to = c .to; weight = s .weight };
+-- the halves of c that a subdivision has, with the weight u
+abbrev pub halvesOf : Conic → Subdivision → Float → Halves
+halvesOf c s u = record {
+  left = record { from = c .from; ctrl = s .«left_ctrl»; to = s .mid; weight = u };
+  right = record { from = s .mid; ctrl = s .«right_ctrl»; to = c .to; weight = u };
 }

@@ -6,7 +6,7 @@ ghost use lib.ListN.{length};
 ghost use lib.Ieee.{binary32, sub, le};
 ghost use Rattle.ieee.specs.Basic.{absOf};
 ghost use Rattle.geometry.specs.Point.{one};
-ghost use Rattle.conic.specs.Conic.{conicAt, thousandth, isLine, lowerOf, conicMid, quadMid, distanceOf, chordOf, nearOf, flatOf, splitOf, halvesOf};
+ghost use Rattle.conic.specs.Conic.{conicAt, thousandth, isLine, lowerOf, conicMid, quadMid, distanceOf, chordOf, nearOf, flatOf, flatnessOf, halfWeightOf, splitOf, halvesOf};
 ghost use Rattle.conic.specs.Halving.{halve, countOf};
 use geometry::Point;
 
@@ -17,12 +17,18 @@ pub struct Conic {
     pub weight: f32,
 }
 
-// A conic's middle, the controls of its halves and their weight.
+// A conic's middle and the controls of its halves.
 pub struct Subdivision {
     pub left_ctrl: Point,
     pub mid: Point,
     pub right_ctrl: Point,
-    pub weight: f32,
+}
+
+// Whether one quad is near enough to a conic, or that only roots can tell.
+pub enum Flatness {
+    Flat,
+    Curved,
+    Unsure,
 }
 
 // What a conic is drawn as: one line, or the quads of a curve.
@@ -91,10 +97,42 @@ fn is_near_one(w: f32) -> bool
     false
 }
 
-// Whether the middles of the conic and of the quad are near each other, measured by a chord above 0.
+// Whether the quad with the same control and target is near enough to the conic, by the squared lengths. Roots and
+// product are each off by a part in 2^23 at most, so they can decide only where the one is within two parts in a million
+// of a millionth of the other; near 0 that bound fails.
 // What is called at each halving takes a conic's floats one by one: a record would go through memory
 // at each call.
-fn is_near(x0: f32, y0: f32, x1: f32, y1: f32, x2: f32, y2: f32, w: f32) -> bool
+pub fn flatness_by_squares(x0: f32, y0: f32, x1: f32, y1: f32, x2: f32, y2: f32, w: f32) -> Flatness
+    ensures { λ r. ⌜ r ≡ flatnessOf (conicAt x0 y0 x1 y1 x2 y2 w) ⌝ }
+{
+    if is_near_one(w) {
+        return Flatness::Flat;
+    }
+    let c = Conic {
+        from: Point { x: x0, y: y0 },
+        ctrl: Point { x: x1, y: y1 },
+        to: Point { x: x2, y: y2 },
+        weight: w,
+    };
+    let chord = geometry::length_squared(geometry::sub(c.to, c.from));
+    let distance = geometry::length_squared(geometry::sub(conic_mid(c), quad_mid(c)));
+    if 1e-30 < chord {
+        if distance <= 9.99998e-7 * chord {
+            if 0.0 <= distance {
+                return Flatness::Flat;
+            }
+            return Flatness::Unsure;
+        }
+        if 1.000002e-6 * chord < distance {
+            return Flatness::Curved;
+        }
+        return Flatness::Unsure;
+    }
+    Flatness::Unsure
+}
+
+// Whether the middles of the conic and of the quad are near each other, measured by a chord above 0.
+pub fn is_near(x0: f32, y0: f32, x1: f32, y1: f32, x2: f32, y2: f32, w: f32) -> bool
     ensures { λ r. ⌜ r ≡ nearOf (distanceOf (conicAt x0 y0 x1 y1 x2 y2 w)) (chordOf (conicAt x0 y0 x1 y1 x2 y2 w)) ⌝ }
 {
     let c = Conic {
@@ -110,41 +148,28 @@ fn is_near(x0: f32, y0: f32, x1: f32, y1: f32, x2: f32, y2: f32, w: f32) -> bool
     false
 }
 
-// Whether the quad with the same control and target is near enough to the conic: by the squared lengths. Roots and
-// product are each off by a part in 2^23 at most, so they can decide only where the one is within two parts in a million
-// of a millionth of the other; near 0 that bound fails.
-pub fn is_flat(x0: f32, y0: f32, x1: f32, y1: f32, x2: f32, y2: f32, w: f32) -> bool
+// The same as one answer: the roots are taken where they are needed.
+fn is_flat(x0: f32, y0: f32, x1: f32, y1: f32, x2: f32, y2: f32, w: f32) -> bool
     ensures { λ r. ⌜ r ≡ flatOf (conicAt x0 y0 x1 y1 x2 y2 w) ⌝ }
 {
-    if is_near_one(w) {
-        return true;
+    let f = flatness_by_squares(x0, y0, x1, y1, x2, y2, w);
+    match f {
+        Flatness::Flat => true,
+        Flatness::Curved => false,
+        Flatness::Unsure => is_near(x0, y0, x1, y1, x2, y2, w),
     }
-    let c = Conic {
-        from: Point { x: x0, y: y0 },
-        ctrl: Point { x: x1, y: y1 },
-        to: Point { x: x2, y: y2 },
-        weight: w,
-    };
-    let chord = geometry::length_squared(geometry::sub(c.to, c.from));
-    let distance = geometry::length_squared(geometry::sub(conic_mid(c), quad_mid(c)));
-    if 1e-30 < chord {
-        if distance <= 9.99998e-7 * chord {
-            if 0.0 <= distance {
-                return true;
-            }
-            return is_near(x0, y0, x1, y1, x2, y2, w);
-        }
-        if 1.000002e-6 * chord < distance {
-            return false;
-        }
-        return is_near(x0, y0, x1, y1, x2, y2, w);
-    }
-    is_near(x0, y0, x1, y1, x2, y2, w)
+}
+
+// The weight of both halves of a conic.
+pub fn half_weight(w: f32) -> f32
+    ensures { λ r. ⌜ r ≡ halfWeightOf w ⌝ }
+{
+    ieee::sqrt((1.0 + w) * 0.5)
 }
 
 // Both halves of a conic, at its middle parameter.
 pub fn subdivide(x0: f32, y0: f32, x1: f32, y1: f32, x2: f32, y2: f32, w: f32) -> Subdivision
-    ensures { λ r. ⌜ halvesOf (conicAt x0 y0 x1 y1 x2 y2 w) r ≡ splitOf (conicAt x0 y0 x1 y1 x2 y2 w) ⌝ }
+    ensures { λ r. ⌜ halvesOf (conicAt x0 y0 x1 y1 x2 y2 w) r (halfWeightOf w) ≡ splitOf (conicAt x0 y0 x1 y1 x2 y2 w) ⌝ }
 {
     let from = Point { x: x0, y: y0 };
     let ctrl = Point { x: x1, y: y1 };
@@ -159,7 +184,6 @@ pub fn subdivide(x0: f32, y0: f32, x1: f32, y1: f32, x2: f32, y2: f32, w: f32) -
         left_ctrl: left_ctrl,
         mid: mid,
         right_ctrl: right_ctrl,
-        weight: ieee::sqrt((1.0 + w) * 0.5),
     }
 }
 
@@ -179,8 +203,8 @@ fn count_quads(x0: f32, y0: f32, x1: f32, y1: f32, x2: f32, y2: f32, w: f32, dep
     let l = h.left_ctrl;
     let m = h.mid;
     let r = h.right_ctrl;
-    count_quads(x0, y0, l.x, l.y, m.x, m.y, h.weight, d)
-        + count_quads(m.x, m.y, r.x, r.y, x2, y2, h.weight, d)
+    let u = half_weight(w);
+    count_quads(x0, y0, l.x, l.y, m.x, m.y, u, d) + count_quads(m.x, m.y, r.x, r.y, x2, y2, u, d)
 }
 
 // How many quads a conic is drawn as: 1 to 64.

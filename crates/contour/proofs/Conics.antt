@@ -12,24 +12,13 @@ use Rattle.conic.specs.declared.Conic.{Conic}
 use Rattle.conic.specs.declared.Lowered.the-variants.{Line, Curve}
 use Rattle.conic.specs.Conic.{isLine, lowerOf}
 use Rattle.conic.specs.Halving.{Piece, piecesOf}
-use Rattle.conic.specs.Spans.{lastTarget}
 use Rattle.conic.proofs.Whole.{whole-conic}
 use Rattle.stream.specs.declared.Element.{Element}
 use Rattle.stream.specs.Stream.{sizesOf, startAfter, penAfter}
 use Rattle.lowering.specs.Entries.{elementsOf, quadsOf, loweredOf}
-use Rattle.lowering.proofs.Entries.{quads-length, quads-sizes}
+use Rattle.lowering.proofs.Entries.{quads-length, quads-sizes, quads-start, quads-pen}
 use Rattle.calls.specs.declared.Call.the-variants.{ConicTo}
 use Rattle.calls.specs.Calls.{entriesOf}
-
-quads-start : (s : Point) (ps : List Piece) → startAfter s (quadsOf ps) ≡ s
-unfolding startAfter elementsOf
-quads-start s [] = refl
-quads-start s (q ∷ ps) = quads-start s ps
-
-quads-pen : (s p : Point) (ps : List Piece) → penAfter s p (quadsOf ps) ≡ lastTarget p ps
-unfolding penAfter elementsOf lastTarget
-quads-pen s p [] = refl
-quads-pen s p (q ∷ ps) = quads-pen s (q .quad .to) ps
 
 pub record ConicAdds (s p b : Point) (ks : List Element) : Type 0 where
   pub some : 1 ≤ length ks

@@ -4,17 +4,18 @@ use mathlib.Core.List.{List, [], _∷_, _++_, map}
 use mathlib.Core.Bool.{Bool, true, false, cond}
 use Prim.Native.Nat.{ℕ, suc, _+_, _*_}
 use native.Mathlib.Omega.{arith}
-use lib.ListN.{length}
+use lib.ListN.{length, replicate}
 use Rattle.geometry.specs.declared.Point.{Point}
 use Rattle.conic.specs.declared.Conic.{Conic}
 use Rattle.conic.specs.declared.Lowered.{Lowered}
 use Rattle.conic.specs.declared.Lowered.the-variants as lowered
 use Rattle.conic.specs.Conic.{isLine, lowerOf}
 use Rattle.conic.specs.Halving.{Piece, piecesOf, wordOf}
+use Rattle.conic.specs.Spans.{lastTarget}
 use Rattle.conic.proofs.Whole.{whole-conic}
 use Rattle.stream.specs.declared.Element.{Element}
 use Rattle.stream.specs.declared.Element.the-variants.{Line}
-use Rattle.stream.specs.Stream.{sizesOf}
+use Rattle.stream.specs.Stream.{bytesOf, sizesOf, startAfter, penAfter}
 use Rattle.lowering.specs.Entries.{Entry, piece, elementOf, elementsOf, quadsOf, piecesIn, jointWord, loweredOf, LineOrQuads, one-line, quads}
 
 pub elements-append : (es ds : List Entry) → elementsOf (es ++ ds) ≡ elementsOf es ++ elementsOf ds
@@ -40,6 +41,22 @@ pub quads-sizes : (ps : List Piece) → sizesOf (quadsOf ps) ≡ 2 * length ps
 unfolding elementsOf sizesOf
 quads-sizes [] = refl
 quads-sizes (p ∷ ps) = omega (arith, quads-sizes ps)
+
+pub quads-bytes : (ps : List Piece) → bytesOf (quadsOf ps) ≡ replicate (length ps) 2
+unfolding elementsOf bytesOf
+quads-bytes [] = refl
+quads-bytes (p ∷ ps) = ap (λ (r : List ℕ). 2 ∷ r) (quads-bytes ps)
+
+-- they leave the start where it was, and the pen at the last one's target
+pub quads-start : (s : Point) (ps : List Piece) → startAfter s (quadsOf ps) ≡ s
+unfolding startAfter elementsOf
+quads-start s [] = refl
+quads-start s (q ∷ ps) = quads-start s ps
+
+pub quads-pen : (s p : Point) (ps : List Piece) → penAfter s p (quadsOf ps) ≡ lastTarget p ps
+unfolding penAfter elementsOf lastTarget
+quads-pen s p [] = refl
+quads-pen s p (q ∷ ps) = quads-pen s (q .quad .to) ps
 
 pub pieces-all : (ps : List Piece) → piecesIn (map piece ps) ≡ ps
 unfolding piecesIn

@@ -2,36 +2,83 @@
 use mathlib.Core.Path.{_≡_, refl, sym, ap, ap₂, _∙_}
 use mathlib.Core.List.{List, [], _∷_, _++_}
 use mathlib.Core.Bool.{true, false}
-use Prim.Native.Nat.{ℕ, _+_, _-_, _*_, _%_, _^_, _≤_, _<_}
+use Prim.Native.Nat.{ℕ, zero, suc, _+_, _-_, _*_, _%_, _^_, _≤_, _<_}
 use native.Mathlib.Nat.{one-mul}
 use native.Mathlib.Omega.{arith}
-use lib.ListN.{length, length-append}
+use lib.ListN.{length, set, replicate, length-append}
+use lib.Seq.{sets-eq}
 use lib.Pow.{shl-exact}
 use lib.Dec.{lit<}
 use lib.Ieee.{Float}
 use Rattle.geometry.specs.declared.Point.{Point}
 use Rattle.conic.specs.declared.Conic.{Conic}
 use Rattle.conic.specs.Conic.{Halves, flatOf, splitOf}
-use Rattle.conic.specs.Halving.{Piece, pieceOf, halve, wordOf}
+use Rattle.conic.specs.Halving.{Piece, pieceOf, halve, piecesOf, wordOf}
 use Rattle.conic.proofs.Halving.{halve-split, word-append}
+use Rattle.conic.proofs.Whole.{halve-ends}
 use Rattle.stream.specs.declared.Builder.{Builder}
 use Rattle.stream.specs.declared.Element.{Element}
 use Rattle.stream.specs.declared.Element.the-variants.{Quad}
-use Rattle.stream.specs.Stream.{State, state, push, pushAll, advanceOf}
-use Rattle.stream.proofs.Push.{push-all-append}
+use Rattle.stream.specs.Stream.{put, allFloats, State, state, push, pushAll, advanceOf}
+use Rattle.stream.proofs.Put.{put-one, put-after, length-put}
+use Rattle.stream.proofs.Push.{push-all-verbs, push-all-points, push-all-start, push-all-pen}
+use Rattle.stream.proofs.Past.{push-all-puts}
+use Rattle.stream.proofs.Lists.{floats-append, length-all}
 use Rattle.lowering.specs.Entries.{elementsOf, quadsOf, builderAt}
-use Rattle.lowering.proofs.Entries.{quads-append}
+use Rattle.lowering.proofs.Entries.{quads-append, quads-length, quads-sizes, quads-bytes, quads-start, quads-pen}
+
+-- ---- runs of stores
+
+pub put-four : (l : List Float) (i : ℕ) (a b c d : Float) → i + 4 ≤ length l → set (set (set (set l i a) (i + 1) b) (i + 2) c) (i + 3) d ≡ put l i (a ∷ b ∷ c ∷ d ∷ [])
+unfolding put
+put-four l i a b c d h =
+    let e1 : i + 1 ≡ suc i = omega arith in
+    let e2 : i + 2 ≡ suc (suc i) = omega arith in
+    let e3 : i + 3 ≡ suc (suc (suc i)) = omega arith in
+    (λ j. set (set (set (set l i a) (e1 j) b) (e2 j) c) (e3 j) d) ∙ sets-eq (a ∷ b ∷ c ∷ d ∷ []) l i h
+
+one-more : (n x : ℕ) → replicate n x ++ x ∷ [] ≡ replicate (suc n) x
+one-more zero x = refl
+one-more (suc n) x = ap (λ (r : List ℕ). x ∷ r) (one-more n x)
+
+length-run : (n x : ℕ) → length (replicate n x) ≡ n
+length-run zero x = refl
+length-run (suc n) x = ap suc (length-run n x)
+
+-- a run of one value, and one more behind it
+pub run-more : (l : List ℕ) (v i x : ℕ) → v + i < length l → set (put l v (replicate i x)) (v + i) x ≡ put l v (replicate (i + 1) x)
+run-more l v i x h =
+    let n = length-run i x in
+    let k : length (put l v (replicate i x)) ≡ length l = length-put l v (replicate i x) (omega arith) in
+    let e : suc i ≡ i + 1 = omega arith in
+    put-one (put l v (replicate i x)) (v + i) x (omega arith)
+    ∙ put-after l (put l v (replicate i x)) v (v + i) (replicate i x) (x ∷ []) (omega arith) (omega arith) refl
+    ∙ ap (put l v) (one-more i x ∙ ap (λ (m : ℕ). replicate m x) e)
+
+pub length-filled : (l : List ℕ) (v n x : ℕ) → v + n ≤ length l → length (put l v (replicate n x)) ≡ length l
+length-filled l v n x h = let e = length-run n x in length-put l v (replicate n x) (omega arith)
 
 -- ---- one quad
 
 pub record OneQuad (ps : List Piece) (c : Conic) (start : ℕ) : Type 0 where
   pub many : length ps ≡ 1
   pub quads : quadsOf ps ≡ Quad (c .ctrl) (c .to) ∷ []
+  pub floats : allFloats (quadsOf ps) ≡ c .ctrl .x ∷ c .ctrl .y ∷ c .to .x ∷ c .to .y ∷ []
   pub word : wordOf ps ≡ 2 ^ start
 
 pub one-quad : (ps : List Piece) (c : Conic) (start size : ℕ) → ps ≡ pieceOf c start size ∷ [] → OneQuad ps c start
-unfolding elementsOf wordOf
-one-quad ps c start size e = record { many = ap length e; quads = ap quadsOf e; word = ap wordOf e ∙ omega arith }
+unfolding elementsOf wordOf allFloats
+one-quad ps c start size e = record { many = ap length e; quads = ap quadsOf e; floats = ap (λ (qs : List Piece). allFloats (quadsOf qs)) e; word = ap wordOf e ∙ omega arith }
+
+-- what pieces leave that were written from point `at` on: the points, the next point and the word
+pub record Wrote (ps : List Piece) (fs gs : List Float) (at next word after : ℕ) : Type 0 where
+  pub points : gs ≡ put fs (2 * at) (allFloats (quadsOf ps))
+  pub end : next ≡ at + 2 * length ps
+  pub bits : after ≡ word + wordOf ps
+
+pub one-wrote : (ps : List Piece) (c : Conic) (start : ℕ) {fs gs : List Float} {at next word after : ℕ} → OneQuad ps c start → gs ≡ put fs (2 * at) (c .ctrl .x ∷ c .ctrl .y ∷ c .to .x ∷ c .to .y ∷ []) → next ≡ at + 2
+    → after ≡ word + 2 ^ start → Wrote ps fs gs at next word after
+one-wrote ps c start {fs} {gs} {at} h e n w = let m = h .many in let b = h .word in record { points = e ∙ ap (put fs (2 * at)) (sym (h .floats)); end = omega arith; bits = omega arith }
 
 -- the bit where it starts, as the code makes it
 pub bit : (k : ℕ) → k < 64 → (1 * 2 ^ k) % 2 ^ 64 ≡ 2 ^ k
@@ -58,13 +105,43 @@ both-halves n c h start z f e =
     let r = halve (n - 1) (h .right) (start + 2 ^ (n - 1)) in
     record { many = ap length q ∙ length-append l r; quads = ap quadsOf q ∙ quads-append l r; word = ap wordOf q ∙ word-append l r }
 
--- the first half from v and p on, then the second behind it
-pub both-written : (v p m n : ℕ) (from pen to mid : Point) (vs : List ℕ) (fs : List Float) (xs ys zs : List Element) {us ws : List ℕ} {gs hs : List Float} → zs ≡ xs ++ ys
-    → state (builderAt (v + m) (p + 2 * m) from mid) us gs ≡ pushAll (state (builderAt v p from pen) vs fs) xs
-    → state (builderAt (v + m + n) (p + 2 * m + 2 * n) from to) ws hs ≡ pushAll (state (builderAt (v + m) (p + 2 * m) from mid) us gs) ys
-    → state (builderAt (v + (m + n)) (p + 2 * (m + n)) from to) ws hs ≡ pushAll (state (builderAt v p from pen) vs fs) zs
-both-written v p m n from pen to mid vs fs xs ys zs {us} {ws} {gs} {hs} z e g =
-    ap₂ (λ (x y : ℕ). state (builderAt x y from to) ws hs) (omega arith) (omega arith)
-    ∙ g
-    ∙ ap (λ (s : State). pushAll s ys) e
-    ∙ sym (ap (pushAll (state (builderAt v p from pen) vs fs)) z ∙ push-all-append (state (builderAt v p from pen) vs fs) xs ys)
+quads-floats : (ps : List Piece) → length (allFloats (quadsOf ps)) ≡ 4 * length ps
+quads-floats ps = length-all (quadsOf ps) ∙ omega (arith, quads-sizes ps)
+
+-- those of the first half, then those of the second behind them
+pub both-wrote : (ps l r : List Piece) {fs us gs : List Float} {at mid next word between after : ℕ} → 2 * at ≤ length fs → BothHalves ps l r → Wrote l fs us at mid word between → Wrote r us gs mid next between after
+    → Wrote ps fs gs at next word after
+both-wrote ps l r {fs} {us} {gs} {at} {mid} h b x y =
+    let n = quads-floats l in
+    let many = b .many in
+    let w = b .word in
+    let m = x .end in
+    let k : 2 * mid ≡ 2 * at + length (allFloats (quadsOf l)) = omega arith in
+    record {
+      points =
+        y .points ∙ put-after fs us (2 * at) (2 * mid) (allFloats (quadsOf l)) (allFloats (quadsOf r)) h k (x .points)
+        ∙ ap (put fs (2 * at)) (sym (ap allFloats (b .quads) ∙ floats-append (quadsOf l) (quadsOf r)));
+      end = omega (arith, x .end, y .end);
+      bits = omega (arith, x .bits, y .bits);
+    }
+
+-- ---- a whole conic
+
+-- bytes and points in place are the quads pushed, wherever start and pen are
+pub whole-pushed : (v p n : ℕ) (c : Conic) (vs ws : List ℕ) (fs gs : List Float) → v + length (piecesOf c) ≤ length vs → 2 * (p + 2 * length (piecesOf c)) ≤ length fs → n ≡ length (piecesOf c)
+    → ws ≡ put vs v (replicate n 2) → gs ≡ put fs (2 * p) (allFloats (quadsOf (piecesOf c)))
+    → (from pen : Point) → state (builderAt (v + n) (p + 2 * n) from (c .to)) ws gs ≡ pushAll (state (builderAt v p from pen) vs fs) (quadsOf (piecesOf c))
+whole-pushed v p n c vs ws fs gs hv hf e g h from pen =
+    let ps = piecesOf c in
+    let ks = quadsOf ps in
+    let s = state (builderAt v p from pen) vs fs in
+    let many = quads-length ps in
+    let size = quads-sizes ps in
+    let r = push-all-puts s ks (omega arith) (omega arith) in
+    let verbs : v + n ≡ pushAll s ks .builder .verbs = sym (push-all-verbs s ks ∙ omega arith) in
+    let points : p + 2 * n ≡ pushAll s ks .builder .points = sym (push-all-points s ks ∙ omega arith) in
+    let start : from ≡ pushAll s ks .builder .start = sym (push-all-start s ks ∙ quads-start from ps) in
+    let end : c .to ≡ pushAll s ks .builder .pen = sym (push-all-pen s ks ∙ quads-pen from pen ps ∙ halve-ends 6 c 0 pen) in
+    let bytes : ws ≡ pushAll s ks .verbs = g ∙ ap (λ (m : ℕ). put vs v (replicate m 2)) e ∙ sym (r .verbs ∙ ap (put vs v) (quads-bytes ps)) in
+    let floats : gs ≡ pushAll s ks .floats = h ∙ sym (r .floats) in
+    λ i. state (builderAt (verbs i) (points i) (start i) (end i)) (bytes i) (floats i)

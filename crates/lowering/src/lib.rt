@@ -1,13 +1,18 @@
 // Writing a conic behind the held elements: one line, or the quads that halving leaves, with the
 // joint word that marks where they start.
 ghost use mathlib.Core.Path.{_≡_};
+ghost use mathlib.Core.Bool.{false, cond};
+ghost use mathlib.Core.List.{_∷_, []};
 ghost use Prim.Native.Nat.{_+_, _*_, _^_, _<_, _≤_};
-ghost use lib.ListN.{length};
-ghost use Rattle.conic.specs.Conic.{conicAt};
-ghost use Rattle.conic.specs.Halving.{halve, wordOf};
-ghost use Rattle.stream.specs.Stream.{state, push, pushAll, Fits};
-ghost use Rattle.lowering.specs.Entries.{elementsOf, quadsOf, loweredOf, jointWord, pointAt, builderAt};
+ghost use lib.ListN.{length, drop, getD, set, replicate};
+ghost use lib.Ieee.{nan};
+ghost use Rattle.conic.specs.Conic.{conicAt, flatOf, flatnessOf, halfWeightOf};
+ghost use Rattle.conic.specs.Halving.{halve, wordOf, piecesOf, countOf};
+ghost use Rattle.stream.specs.Stream.{put, allFloats, state, push, pushAll, Fits};
+ghost use Rattle.lowering.specs.Entries.{elementsOf, quadsOf, loweredOf, jointWord, builderAt};
+ghost use Rattle.lowering.specs.Quads.{HasRoom, Known, Remembers, Lowers};
 use conic::Conic;
+use conic::Flatness;
 use conic::Lowered;
 use conic::MAX_DEPTH;
 use geometry::Point;
@@ -53,13 +58,52 @@ fn push_piece(
     }
 }
 
-// The quads of a conic as verbs from v on and points from p on, for which there is room, and the bits
-// where they start. Neither start nor pen of a record has a part in it.
-fn push_conic(
-    v: usize,
-    p: usize,
-    verbs: &mut [u8],
+// A quad's points from point `at` on, and the bit where it starts.
+fn put_quad(
     points: &mut [f32],
+    at: &mut usize,
+    word: &mut u64,
+    x1: f32,
+    y1: f32,
+    x2: f32,
+    y2: f32,
+    start: usize,
+)
+    requires { ⌜ (start < 64) × (2 * (now at + 2) ≤ length (now points)) × (now word + 2 ^ start < 2 ^ 64) ⌝ }
+    ensures { λ _. ⌜ now (points .exit) ≡ put (now (points .entry)) (2 * now (at .entry)) (x1 ∷ y1 ∷ x2 ∷ y2 ∷ []) ⌝ }
+    ensures { λ _. ⌜ (now (at .exit) ≡ now (at .entry) + 2) × (now (word .exit) ≡ now (word .entry) + 2 ^ start) ⌝ }
+{
+    let i = 2 * *at;
+    points[i] = x1;
+    points[i + 1] = y1;
+    points[i + 2] = x2;
+    points[i + 3] = y2;
+    *at = *at + 2;
+    *word = *word + (1 << start);
+}
+
+// The weight of both halves of a conic that may be halved d times after this: all of that depth have the
+// same, so its root is taken once.
+fn weight_of_halves(memo: &mut [f32; 6], d: usize, w: f32) -> f32
+    requires { ⌜ (d < 6) × Known (getD (now memo) d nan) (halfWeightOf w) ⌝ }
+    ensures { λ r. ⌜ (r ≡ halfWeightOf w) × (now (memo .exit) ≡ set (now (memo .entry)) d (halfWeightOf w)) ⌝ }
+{
+    let known = memo[d];
+    if known == 0.0 {
+        let u = conic::half_weight(w);
+        memo[d] = u;
+        return u;
+    }
+    known
+}
+
+// The quads of a conic, their points from point `at` on, and the bits where they start. The three that
+// follow call each other: in place of one another they would keep what a quad alone does not need.
+fn push_conic(
+    points: &mut [f32],
+    memo: &mut [f32; 6],
+    at: &mut usize,
+    word: &mut u64,
     x0: f32,
     y0: f32,
     x1: f32,
@@ -69,44 +113,175 @@ fn push_conic(
     w: f32,
     depth: usize,
     start: usize,
-) -> Marks
-    requires { ⌜ (depth ≤ 6) × (start + 2 ^ depth ≤ 64) × (v + length (halve depth (conicAt x0 y0 x1 y1 x2 y2 w) start) ≤ length (now verbs)) × (2 * (p + 2 * length (halve depth (conicAt x0 y0 x1 y1 x2 y2 w) start)) ≤ length (now points)) ⌝ }
-    ensures { λ r. ⌜ ((from pen : Point) → state (builderAt (v + r .count) (p + 2 * r .count) from (pointAt x2 y2)) (now (verbs .exit)) (now (points .exit)) ≡ pushAll (state (builderAt v p from pen) (now (verbs .entry)) (now (points .entry))) (quadsOf (halve depth (conicAt x0 y0 x1 y1 x2 y2 w) start))) ⌝ }
-    ensures { λ r. ⌜ (r .count ≡ length (halve depth (conicAt x0 y0 x1 y1 x2 y2 w) start)) × (r .word ≡ wordOf (halve depth (conicAt x0 y0 x1 y1 x2 y2 w) start)) ⌝ }
+)
+    requires { ⌜ (depth ≤ 6) × (start + 2 ^ depth ≤ 64) × HasRoom (halve depth (conicAt x0 y0 x1 y1 x2 y2 w) start) (now points) (now at) (now word) × Remembers depth w (now memo) ⌝ }
+    ensures { λ _. ⌜ now (points .exit) ≡ put (now (points .entry)) (2 * now (at .entry)) (allFloats (quadsOf (halve depth (conicAt x0 y0 x1 y1 x2 y2 w) start))) ⌝ }
+    ensures { λ _. ⌜ (now (at .exit) ≡ now (at .entry) + 2 * length (halve depth (conicAt x0 y0 x1 y1 x2 y2 w) start)) × (now (word .exit) ≡ now (word .entry) + wordOf (halve depth (conicAt x0 y0 x1 y1 x2 y2 w) start)) ⌝ }
+    ensures { λ _. ⌜ Remembers depth w (now (memo .exit)) × (drop depth (now (memo .exit)) ≡ drop depth (now (memo .entry))) ⌝ }
 {
-    let ctrl = Point { x: x1, y: y1 };
-    let to = Point { x: x2, y: y2 };
     if depth == 0 {
-        return push_piece(v, p, verbs, points, ctrl, to, start);
+        put_quad(points, at, word, x1, y1, x2, y2, start);
+        return;
     }
-    if conic::is_flat(x0, y0, x1, y1, x2, y2, w) {
-        return push_piece(v, p, verbs, points, ctrl, to, start);
+    let f = conic::flatness_by_squares(x0, y0, x1, y1, x2, y2, w);
+    match f {
+        Flatness::Flat => put_quad(points, at, word, x1, y1, x2, y2, start),
+        Flatness::Curved => push_halves(points, memo, at, word, x0, y0, x1, y1, x2, y2, w, depth, start),
+        Flatness::Unsure => push_unsure(points, memo, at, word, x0, y0, x1, y1, x2, y2, w, depth, start),
     }
+}
+
+// The same of a conic of which only roots can tell whether it is flat.
+fn push_unsure(
+    points: &mut [f32],
+    memo: &mut [f32; 6],
+    at: &mut usize,
+    word: &mut u64,
+    x0: f32,
+    y0: f32,
+    x1: f32,
+    y1: f32,
+    x2: f32,
+    y2: f32,
+    w: f32,
+    depth: usize,
+    start: usize,
+)
+    requires { ⌜ (0 < depth) × (flatnessOf (conicAt x0 y0 x1 y1 x2 y2 w) ≡ Flatness.Unsure) × (depth ≤ 6) × (start + 2 ^ depth ≤ 64) × HasRoom (halve depth (conicAt x0 y0 x1 y1 x2 y2 w) start) (now points) (now at) (now word) × Remembers depth w (now memo) ⌝ }
+    ensures { λ _. ⌜ now (points .exit) ≡ put (now (points .entry)) (2 * now (at .entry)) (allFloats (quadsOf (halve depth (conicAt x0 y0 x1 y1 x2 y2 w) start))) ⌝ }
+    ensures { λ _. ⌜ (now (at .exit) ≡ now (at .entry) + 2 * length (halve depth (conicAt x0 y0 x1 y1 x2 y2 w) start)) × (now (word .exit) ≡ now (word .entry) + wordOf (halve depth (conicAt x0 y0 x1 y1 x2 y2 w) start)) ⌝ }
+    ensures { λ _. ⌜ Remembers depth w (now (memo .exit)) × (drop depth (now (memo .exit)) ≡ drop depth (now (memo .entry))) ⌝ }
+{
+    if conic::is_near(x0, y0, x1, y1, x2, y2, w) {
+        put_quad(points, at, word, x1, y1, x2, y2, start);
+        return;
+    }
+    push_halves(points, memo, at, word, x0, y0, x1, y1, x2, y2, w, depth, start);
+}
+
+// The same of a conic that is not flat.
+fn push_halves(
+    points: &mut [f32],
+    memo: &mut [f32; 6],
+    at: &mut usize,
+    word: &mut u64,
+    x0: f32,
+    y0: f32,
+    x1: f32,
+    y1: f32,
+    x2: f32,
+    y2: f32,
+    w: f32,
+    depth: usize,
+    start: usize,
+)
+    requires { ⌜ (0 < depth) × (flatOf (conicAt x0 y0 x1 y1 x2 y2 w) ≡ false) × (depth ≤ 6) × (start + 2 ^ depth ≤ 64) × HasRoom (halve depth (conicAt x0 y0 x1 y1 x2 y2 w) start) (now points) (now at) (now word) × Remembers depth w (now memo) ⌝ }
+    ensures { λ _. ⌜ now (points .exit) ≡ put (now (points .entry)) (2 * now (at .entry)) (allFloats (quadsOf (halve depth (conicAt x0 y0 x1 y1 x2 y2 w) start))) ⌝ }
+    ensures { λ _. ⌜ (now (at .exit) ≡ now (at .entry) + 2 * length (halve depth (conicAt x0 y0 x1 y1 x2 y2 w) start)) × (now (word .exit) ≡ now (word .entry) + wordOf (halve depth (conicAt x0 y0 x1 y1 x2 y2 w) start)) ⌝ }
+    ensures { λ _. ⌜ Remembers depth w (now (memo .exit)) × (drop depth (now (memo .exit)) ≡ drop depth (now (memo .entry))) ⌝ }
+{
     let d = depth - 1;
     let h = conic::subdivide(x0, y0, x1, y1, x2, y2, w);
     let a = h.left_ctrl;
     let m = h.mid;
     let b = h.right_ctrl;
-    let u = h.weight;
-    let l = push_conic(v, p, verbs, points, x0, y0, a.x, a.y, m.x, m.y, u, d, start);
-    let r = push_conic(
-        v + l.count,
-        p + 2 * l.count,
-        verbs,
+    let u = weight_of_halves(memo, d, w);
+    push_conic(points, memo, at, word, x0, y0, a.x, a.y, m.x, m.y, u, d, start);
+    let next = start + (1 << d);
+    push_conic(points, memo, at, word, m.x, m.y, b.x, b.y, x2, y2, u, d, next);
+}
+
+// The same of a whole conic that is not flat, as far as the squared lengths tell.
+fn push_first(unsure: bool, points: &mut [f32], at: &mut usize, word: &mut u64, c: Conic)
+    requires { ⌜ (flatnessOf c ≡ cond unsure Flatness.Unsure Flatness.Curved) × HasRoom (piecesOf c) (now points) (now at) (now word) ⌝ }
+    ensures { λ _. ⌜ now (points .exit) ≡ put (now (points .entry)) (2 * now (at .entry)) (allFloats (quadsOf (piecesOf c))) ⌝ }
+    ensures { λ _. ⌜ (now (at .exit) ≡ now (at .entry) + 2 * length (piecesOf c)) × (now (word .exit) ≡ now (word .entry) + wordOf (piecesOf c)) ⌝ }
+{
+    let mut memo = [0.0; 6];
+    if unsure {
+        push_unsure(
+            points,
+            &mut memo,
+            at,
+            word,
+            c.from.x,
+            c.from.y,
+            c.ctrl.x,
+            c.ctrl.y,
+            c.to.x,
+            c.to.y,
+            c.weight,
+            MAX_DEPTH,
+            0,
+        );
+        return;
+    }
+    push_halves(
         points,
-        m.x,
-        m.y,
-        b.x,
-        b.y,
-        x2,
-        y2,
-        u,
-        d,
-        start + (1 << d),
+        &mut memo,
+        at,
+        word,
+        c.from.x,
+        c.from.y,
+        c.ctrl.x,
+        c.ctrl.y,
+        c.to.x,
+        c.to.y,
+        c.weight,
+        MAX_DEPTH,
+        0,
     );
-    Marks {
-        count: l.count + r.count,
-        word: l.word + r.word,
+}
+
+// n quads as verbs from v on.
+fn fill_quads(verbs: &mut [u8], v: usize, n: usize)
+    requires { ⌜ v + n ≤ length (now verbs) ⌝ }
+    ensures { λ _. ⌜ now (verbs .exit) ≡ put (now (verbs .entry)) v (replicate n 2) ⌝ }
+{
+    for i in 0..n {
+        verbs[v + i] = 2;
+    }
+}
+
+// The quads of a conic that is more than one, as verbs from v on and points from p on.
+fn push_curve(
+    unsure: bool,
+    v: usize,
+    p: usize,
+    verbs: &mut [u8],
+    points: &mut [f32],
+    c: Conic,
+) -> Marks
+    requires { ⌜ (flatnessOf c ≡ cond unsure Flatness.Unsure Flatness.Curved) × (v + countOf c ≤ length (now verbs)) × (2 * (p + 2 * countOf c) ≤ length (now points)) ⌝ }
+    ensures { λ r. ⌜ Lowers r v p c (now (verbs .entry)) (now (points .entry)) (now (verbs .exit)) (now (points .exit)) ⌝ }
+{
+    let mut at = p;
+    let mut word = 0;
+    push_first(unsure, points, &mut at, &mut word, c);
+    let count = (at - p) / 2;
+    fill_quads(verbs, v, count);
+    Marks { count, word }
+}
+
+// The quads of a conic as verbs from v on and points from p on, for which there is room. Neither start nor
+// pen of a record has a part in it.
+fn push_quads(v: usize, p: usize, verbs: &mut [u8], points: &mut [f32], c: Conic) -> Marks
+    requires { ⌜ (v + countOf c ≤ length (now verbs)) × (2 * (p + 2 * countOf c) ≤ length (now points)) ⌝ }
+    ensures { λ r. ⌜ Lowers r v p c (now (verbs .entry)) (now (points .entry)) (now (verbs .exit)) (now (points .exit)) ⌝ }
+{
+    let f = conic::flatness_by_squares(
+        c.from.x,
+        c.from.y,
+        c.ctrl.x,
+        c.ctrl.y,
+        c.to.x,
+        c.to.y,
+        c.weight,
+    );
+    match f {
+        Flatness::Flat => push_piece(v, p, verbs, points, c.ctrl, c.to, 0),
+        Flatness::Curved => push_curve(false, v, p, verbs, points, c),
+        Flatness::Unsure => push_curve(true, v, p, verbs, points, c),
     }
 }
 
@@ -125,21 +300,7 @@ pub fn push_lowered(b: Builder, verbs: &mut [u8], points: &mut [f32], l: Lowered
             }
         }
         Lowered::Curve(c) => {
-            let m = push_conic(
-                b.verbs,
-                b.points,
-                verbs,
-                points,
-                c.from.x,
-                c.from.y,
-                c.ctrl.x,
-                c.ctrl.y,
-                c.to.x,
-                c.to.y,
-                c.weight,
-                MAX_DEPTH,
-                0,
-            );
+            let m = push_quads(b.verbs, b.points, verbs, points, c);
             let start = b.start;
             let to = c.to;
             Written {

@@ -9,7 +9,7 @@ use Rattle.geometry.specs.declared.Point.{Point}
 use Rattle.stream.specs.declared.Element.{Element}
 use Rattle.stream.specs.declared.Element.the-variants.{Move, Line, Quad, Cubic, Close}
 use Rattle.stream.specs.Stream.{origin, verbOf, pointsOf, floatsIn, startOf, penOf, startAfter, penAfter, bytesOf, allFloats}
-use Rattle.reader.proofs.Holding.{bytes-append, bytes-one}
+use Rattle.stream.proofs.Lists.{bytes-append, bytes-one}
 use Rattle.contour.proofs.Along.{start-append, pen-append}
 use Rattle.original.specs.PathBuilder.{Option, none, some, PathBuilder, isNone, ensureStarted, drawn, moveTo, lineTo, quadTo, cubicTo, close}
 

@@ -16,7 +16,8 @@ use Rattle.reader.specs.declared.Cursor.{Cursor}
 use Rattle.reader.specs.Reading.{Answer, ok, refused, Item, item, end, cursor, elementAt, readAt, prepend, follow, readFrom, readAll, Reads, ends, more}
 use Rattle.reader.proofs.Reader.{View, bad, past, malformed, found, view, byteAt, read-from}
 use Rattle.reader.proofs.Parts.{take-drop, element-part, enough}
-use Rattle.reader.proofs.Holding.{bytes-append, floats-append, bytes-one, floats-one, Holding, cursorPast}
+use Rattle.stream.proofs.Lists.{bytes-append, floats-append, bytes-one, floats-one}
+use Rattle.reader.proofs.Holding.{Holding, cursorPast}
 
 -- ---- what is read as a whole reads one by one
 

@@ -16,40 +16,11 @@ use Rattle.stream.specs.declared.Element.the-variants.{Move, Line, Quad, Cubic,
 use Rattle.stream.specs.Stream.{put, verbOf, pointsOf, floatsOf, bytesOf, allFloats, sizeOf, sizesOf, pointCount, badRecord, advanceOf, State, state, push, pushAll, badState, Fits}
 use Rattle.stream.proofs.Put.{length-put, take-grown}
 use Rattle.stream.proofs.Past.{length-floats}
+use Rattle.stream.proofs.Lists.{bytes-append, floats-append, length-bytes, length-all, bytes-one, floats-one}
 use Rattle.stream.proofs.Push.{count-verb, sizes-cons, sizes-one, sizes-append}
 use Rattle.reader.specs.declared.Cursor.{Cursor}
 use Rattle.reader.specs.Reading.{Answer, ok, refused, Item, item, end, cursor, pointAt, elementAt, readAt, prepend, follow, readFrom, readAll, Reads, ends, more}
 use Rattle.reader.proofs.Reader.{byteAt, read-past, read-found, read-from}
-
--- ---- the bytes and the floats of a list of elements
-
-pub bytes-append : (ks js : List Element) → bytesOf (ks ++ js) ≡ bytesOf ks ++ bytesOf js
-unfolding bytesOf
-bytes-append [] js = refl
-bytes-append (k ∷ ks) js = ap (λ (r : List ℕ). verbOf k ∷ r) (bytes-append ks js)
-
-pub floats-append : (ks js : List Element) → allFloats (ks ++ js) ≡ allFloats ks ++ allFloats js
-unfolding allFloats
-floats-append [] js = refl
-floats-append (k ∷ ks) js = ap (λ (r : List Float). floatsOf k ++ r) (floats-append ks js) ∙ sym (append-assoc (floatsOf k) (allFloats ks) (allFloats js))
-
-length-bytes : (ks : List Element) → length (bytesOf ks) ≡ length ks
-unfolding bytesOf
-length-bytes [] = refl
-length-bytes (k ∷ ks) = ap suc (length-bytes ks)
-
-length-all : (ks : List Element) → length (allFloats ks) ≡ 2 * sizesOf ks
-unfolding allFloats sizesOf
-length-all [] = refl
-length-all (k ∷ ks) = length-append (floatsOf k) (allFloats ks) ∙ omega (arith, length-floats k, length-all ks)
-
-pub bytes-one : (k : Element) → bytesOf (k ∷ []) ≡ verbOf k ∷ []
-unfolding bytesOf
-bytes-one k = refl
-
-pub floats-one : (k : Element) → allFloats (k ∷ []) ≡ floatsOf k
-unfolding allFloats
-floats-one k = append-nil (floatsOf k)
 
 -- ---- the counts are those of ks, and the first places hold them
 

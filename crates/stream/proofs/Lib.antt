@@ -3,3 +3,4 @@ pub mod Put
 pub mod Tests
 pub mod Push
 pub mod Past
+pub mod Lists

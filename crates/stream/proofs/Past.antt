@@ -1,4 +1,4 @@
--- What lies past the held elements keeps what it had.
+-- What adding elements leaves in the buffers: their bytes and floats in one piece, and past them what was there.
 use mathlib.Core.Path.{_≡_, refl, sym, ap, _∙_}
 use mathlib.Core.List.{List, [], _∷_, _++_}
 use Prim.Native.Nat.{ℕ, _+_, _-_, _*_, _≤_}
@@ -7,8 +7,8 @@ use lib.ListN.{length, take, drop, length-append}
 use lib.Seq.{drop-append-add, drop-drop, length-take-le}
 use Rattle.stream.specs.declared.Element.{Element}
 use Rattle.stream.specs.declared.Element.the-variants.{Move, Line, Quad, Cubic, Close}
-use Rattle.stream.specs.Stream.{put, verbOf, floatsOf, sizeOf, sizesOf, advanceOf, State, push, pushAll, Fits}
-use Rattle.stream.proofs.Put.{length-put}
+use Rattle.stream.specs.Stream.{put, verbOf, floatsOf, bytesOf, allFloats, sizeOf, sizesOf, advanceOf, State, push, pushAll, Fits}
+use Rattle.stream.proofs.Put.{length-put, put-nil, put-after}
 use Rattle.stream.proofs.Push.{sizes-cons}
 
 drop-put {ℓ} : {A : Type ℓ} (l : List A) (i m : ℕ) (vs : List A) → i ≤ length l → i + length vs ≤ m → drop m (put l i vs) ≡ drop m l
@@ -45,4 +45,23 @@ push-all-past s (k ∷ ks) v f hv hf kv kf =
     record {
       verbs = r .verbs ∙ drop-put (s .verbs) (b .verbs) v (verbOf k ∷ []) (omega arith) (omega arith);
       floats = r .floats ∙ drop-put (s .floats) (2 * b .points) f (floatsOf k) (omega arith) (omega arith);
+    }
+
+pub record Puts (s t : State) (ks : List Element) : Type 0 where
+  pub verbs : t .verbs ≡ put (s .verbs) (s .builder .verbs) (bytesOf ks)
+  pub floats : t .floats ≡ put (s .floats) (2 * s .builder .points) (allFloats ks)
+
+pub push-all-puts : (s : State) (ks : List Element) → s .builder .verbs + length ks ≤ length (s .verbs) → 2 * (s .builder .points + sizesOf ks) ≤ length (s .floats) → Puts s (pushAll s ks) ks
+unfolding pushAll push advanceOf bytesOf allFloats
+push-all-puts s [] hv hf = record { verbs = sym (put-nil (s .verbs) (s .builder .verbs)); floats = sym (put-nil (s .floats) (2 * s .builder .points)) }
+push-all-puts s (k ∷ ks) hv hf =
+    let b = s .builder in
+    let c = sizes-cons k ks in
+    let fk = length-floats k in
+    let lv : length (push s k .verbs) ≡ length (s .verbs) = length-put (s .verbs) (b .verbs) (verbOf k ∷ []) (omega arith) in
+    let lf : length (push s k .floats) ≡ length (s .floats) = length-put (s .floats) (2 * b .points) (floatsOf k) (omega arith) in
+    let r = push-all-puts (push s k) ks (omega arith) (omega arith) in
+    record {
+      verbs = r .verbs ∙ put-after (s .verbs) (push s k .verbs) (b .verbs) (b .verbs + 1) (verbOf k ∷ []) (bytesOf ks) (omega arith) refl refl;
+      floats = r .floats ∙ put-after (s .floats) (push s k .floats) (2 * b .points) (2 * (b .points + sizeOf k)) (floatsOf k) (allFloats ks) (omega arith) (omega arith) refl;
     }

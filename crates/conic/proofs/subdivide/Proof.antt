@@ -30,12 +30,9 @@ add-requires-4 c κs = search needs
 scale-requires-5 : tie.Need-scale-requires-5
 scale-requires-5 c κs = search needs
 
-sqrt-requires : tie.Need-sqrt-requires
-sqrt-requires c κs = search needs
-
 returns : tie.Need-returns
 unfolding splitOf
-returns c = rw (← c .before .before .before .before .before .before .before .before .before .scale .ensures, ← c .before .before .before .before .before .before .before .before .add .ensures, ← c .before .before .before .before .before .before .before .scale2 .ensures, ← c .before .before .before .before .before .before .add2 .ensures, ← c .before .before .before .before .before .scale3 .ensures, ← c .before .before .before .before .scale4 .ensures, ← c .before .before .before .add3 .ensures, ← c .before .before .add4 .ensures, ← c .before .scale5 .ensures, ← c .sqrt .ensures)
+returns c = rw (← c .before .before .before .before .before .before .before .before .scale .ensures, ← c .before .before .before .before .before .before .before .add .ensures, ← c .before .before .before .before .before .before .scale2 .ensures, ← c .before .before .before .before .before .add2 .ensures, ← c .before .before .before .before .scale3 .ensures, ← c .before .before .before .scale4 .ensures, ← c .before .before .add3 .ensures, ← c .before .add4 .ensures, ← c .scale5 .ensures)
 
 pub subdivide-spec : {M : Type 1} → statement M
 subdivide-spec =
@@ -50,5 +47,4 @@ subdivide-spec =
     add-requires-3
     add-requires-4
     scale-requires-5
-    sqrt-requires
     returns)

@@ -1,10 +1,4 @@
-use mathlib.Core.Path.{sym, ap, _∙_}
-use native.Mathlib.Omega.{arith}
-use lib.Dec.{lit≤}
 use borrow.Author.Needs.{needs}
-use Rattle.stream.specs.Stream.{State, state, pushAll}
-use Rattle.stream.proofs.Push.{push-all-one}
-use Rattle.lowering.proofs.Entries.{LoweredTo, lowered-line, lowered-curve}
 use Rattle.lowering.proofs.push_lowered.Statement.{statement}
 use Rattle.lowering.proofs.push_lowered.Tie as tie
 
@@ -12,32 +6,22 @@ enum-known-l : tie.Need-enum-known-l
 enum-known-l c = search needs
 
 push-line-requires : tie.Need-push-line-requires
-push-line-requires c κs =
-    let h = lowered-line (c .before .before .before .before .before .before .before .args .l) _ (c .before .before .before .l .given .1) in
-    omega (arith, c .before .before .before .before .before .before .before .pre, h .many, h .size)
+push-line-requires c κs = ?
 
 enum-known-l-2 : tie.Need-enum-known-l-2
 enum-known-l-2 c = search needs
 
-push-conic-requires : tie.Need-push-conic-requires
-push-conic-requires c κs =
-    let h = lowered-curve (c .before .before .before .before .before .before .before .args .l) _ (c .before .before .before .l2 .given .1) in
-    (lit≤ tt, lit≤ tt, omega (arith, c .before .before .before .before .before .before .before .pre, h .many), omega (arith, c .before .before .before .before .before .before .before .pre, h .size))
+push-quads-requires : tie.Need-push-quads-requires
+push-quads-requires c κs = ?
 
 add-t20 : tie.Need-add-t20
-add-t20 c =
-    let h = lowered-curve (c .before .before .before .before .before .before .before .before .before .before .before .before .before .before .before .before .args .l) _ (c .before .before .before .before .before .before .before .before .before .before .before .before .l2 .given .1) in
-    omega (arith, c .before .before .before .before .before .before .before .before .before .before .before .before .before .before .before .before .pre, c .before .before .before .before .before .before .before .before .before .before .before .before .before .before .before .before .good, c .before .before .before .before .before .before .before .before .push-conic .ensures .1 .0, h .many, h .size)
+add-t20 c = ?
 
 mul-t21 : tie.Need-mul-t21
-mul-t21 c =
-    let h = lowered-curve (c .before .before .before .before .before .before .before .before .before .before .before .before .before .before .before .before .before .args .l) _ (c .before .before .before .before .before .before .before .before .before .before .before .before .before .l2 .given .1) in
-    omega (arith, c .before .before .before .before .before .before .before .before .before .before .before .before .before .before .before .before .before .pre, c .before .before .before .before .before .before .before .before .before .before .before .before .before .before .before .before .before .good, c .before .before .before .before .before .before .before .before .before .push-conic .ensures .1 .0, h .many, h .size)
+mul-t21 c = ?
 
 add-t22 : tie.Need-add-t22
-add-t22 c =
-    let h = lowered-curve (c .before .before .before .before .before .before .before .before .before .before .before .before .before .before .before .before .before .before .args .l) _ (c .before .before .before .before .before .before .before .before .before .before .before .before .before .before .l2 .given .1) in
-    omega (arith, c .before .before .before .before .before .before .before .before .before .before .before .before .before .before .before .before .before .before .pre, c .before .before .before .before .before .before .before .before .before .before .before .before .before .before .before .before .before .before .good, c .before .before .before .before .before .before .before .before .before .before .push-conic .ensures .1 .0, h .many, h .size)
+add-t22 c = ?
 
 same-length : tie.Need-same-length
 same-length c = search needs
@@ -46,11 +30,7 @@ same-length-2 : tie.Need-same-length-2
 same-length-2 c = search needs
 
 returns : tie.Need-returns
-returns c =
-    let a = c .before .before .before .before .before .before .before .before .before .before .before .before .args in
-    let s : State = state (a .b) (a .verbs .now) (a .points .now) in
-    let h = lowered-line (a .l) _ (c .before .before .before .before .before .before .before .before .l .given .1) in
-    (c .before .before .before .before .push-line .ensures ∙ sym (ap (pushAll s) (h .elements) ∙ push-all-one s _), sym (h .word))
+returns c = ?
 
 same-length-3 : tie.Need-same-length-3
 same-length-3 c = search needs
@@ -59,12 +39,7 @@ same-length-4 : tie.Need-same-length-4
 same-length-4 c = search needs
 
 returns-2 : tie.Need-returns-2
-returns-2 c =
-    let a = c .before .before .before .before .before .before .before .before .before .before .before .before .before .before .before .before .before .before .args in
-    let s : State = state (a .b) (a .verbs .now) (a .points .now) in
-    let h = lowered-curve (c .before .before .before .before .before .before .before .before .before .before .before .before .before .before .before .before .before .before .args .l) _ (c .before .before .before .before .before .before .before .before .before .before .before .before .before .before .l2 .given .1) in
-    let e = c .before .before .before .before .before .before .before .before .before .before .push-conic .ensures in
-    (e .0 (a .b .start) (a .b .pen) ∙ sym (ap (pushAll s) (h .elements)), e .1 .1 ∙ sym (h .word))
+returns-2 c = ?
 
 pub push-lowered-spec : {M : Type 1} → statement M
 push-lowered-spec =
@@ -73,7 +48,7 @@ push-lowered-spec =
     enum-known-l
     push-line-requires
     enum-known-l-2
-    push-conic-requires
+    push-quads-requires
     add-t20
     mul-t21
     add-t22

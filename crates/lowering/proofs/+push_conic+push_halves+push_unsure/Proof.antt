@@ -1,0 +1,317 @@
+-- `push_conic`, `push_halves` and `push_unsure` meet their contracts: the first two call each other for a conic and for its halves, which may be
+-- halved once less. Assumes nothing.
+use mathlib.Core.Path.{_≡_, refl, sym, ap, subst, _∙_}
+use mathlib.Core.List.{List}
+use mathlib.Core.Bool.{false}
+use Prim.Native.Nat.{ℕ, _+_, _-_, _*_, _%_, _^_, _<_}
+use native.Mathlib.Omega.{arith}
+use lib.ListN.{length}
+use lib.Pow.{pow-pos}
+use borrow.Author.Needs.{needs}
+use borrow.Fn.Kinds.{In}
+use borrow.Fn.PlainCycle.{Measures, is, falls, and}
+use Rattle.conic.specs.declared.Conic.{Conic}
+use Rattle.conic.specs.declared.Flatness.the-variants.{Flat, Curved, Unsure}
+use Rattle.conic.specs.Conic.{conicAt, halvesOf, halfWeightOf}
+use Rattle.conic.specs.Halving.{Piece, halve, wordOf}
+use Rattle.conic.proofs.Flat.{flatness-tells}
+use Rattle.conic.proofs.Halving.{halve-none, halve-flat, half-span}
+use Rattle.lowering.specs.Entries.{quadsOf}
+use Rattle.lowering.proofs.Writing.{OneQuad, one-quad, bit, BothHalves, both-halves, Wrote, one-wrote, both-wrote}
+use Rattle.lowering.proofs.Memo.{first-known, first-half, both-known}
+use Rattle.lowering.proofs.push_conic.Reads as push-conic
+use Rattle.lowering.proofs.push_conic.Kinds as conic-kinds
+use Rattle.lowering.proofs.+push_conic+push_halves+push_unsure.Lts-push_conic as conic-lts
+use Rattle.lowering.proofs.push_halves.Reads as push-halves
+use Rattle.lowering.proofs.push_halves.Kinds as halves-kinds
+use Rattle.lowering.proofs.+push_conic+push_halves+push_unsure.Lts-push_halves as halves-lts
+use Rattle.lowering.proofs.push_unsure.Reads as push-unsure
+use Rattle.lowering.proofs.push_unsure.Kinds as unsure-kinds
+use Rattle.lowering.proofs.+push_conic+push_halves+push_unsure.Lts-push_unsure as unsure-lts
+use Rattle.conic.proofs.flatness_by_squares.Reads as flatness-reads
+use Rattle.conic.proofs.is_near.Reads as is-near-reads
+use Rattle.conic.proofs.subdivide.Reads as subdivide-reads
+use Rattle.lowering.proofs.put_quad.Reads as put-quad-reads
+use Rattle.lowering.proofs.weight_of_halves.Reads as weight-reads
+use Rattle.lowering.proofs.+push_conic+push_halves+push_unsure.{statement}
+use Rattle.lowering.proofs.+push_conic+push_halves+push_unsure.Tie.{close}
+
+-- the depth falls from a conic to its halves; at one depth `push_conic` calls the others, and `push_unsure` calls `push_halves`
+abbrev μ-conic : Measures 4 conic-kinds.ps ℕ
+μ-conic κs a = 3 * a .1 .1 .1 .1 .1 .1 .1 .1 .1 .1 .1 .0 + 2
+
+abbrev μ-unsure : Measures 4 unsure-kinds.ps ℕ
+μ-unsure κs a = 3 * a .1 .1 .1 .1 .1 .1 .1 .1 .1 .1 .1 .0 + 1
+
+abbrev μ-halves : Measures 4 halves-kinds.ps ℕ
+μ-halves κs a = 3 * a .1 .1 .1 .1 .1 .1 .1 .1 .1 .1 .1 .0
+
+module _ (t : ℕ) where
+  abbrev conic-at : In 4 conic-kinds.ps
+  conic-at = and 4 conic-kinds.ps (is 4 conic-kinds.ps μ-conic t) push-conic.Pre
+
+  abbrev halves-at : In 4 halves-kinds.ps
+  halves-at = and 4 halves-kinds.ps (is 4 halves-kinds.ps μ-halves t) push-halves.Pre
+
+  abbrev unsure-at : In 4 unsure-kinds.ps
+  unsure-at = and 4 unsure-kinds.ps (is 4 unsure-kinds.ps μ-unsure t) push-unsure.Pre
+
+  abbrev conic-below : In 4 conic-kinds.ps
+  conic-below = and 4 conic-kinds.ps (falls 4 conic-kinds.ps _<_ μ-conic t) push-conic.Pre
+
+  abbrev halves-below : In 4 halves-kinds.ps
+  halves-below = and 4 halves-kinds.ps (falls 4 halves-kinds.ps _<_ μ-halves t) push-halves.Pre
+
+  abbrev unsure-below : In 4 unsure-kinds.ps
+  unsure-below = and 4 unsure-kinds.ps (falls 4 unsure-kinds.ps _<_ μ-unsure t) push-unsure.Pre
+
+  abbrev conic-claims : conic-lts.Claims
+  conic-claims = (put-quad-reads.Asked, put-quad-reads.Learnt, flatness-reads.Asked, flatness-reads.Learnt, halves-below, push-halves.Post, unsure-below, push-unsure.Post)
+
+  abbrev halves-claims : halves-lts.Claims
+  halves-claims = (subdivide-reads.Asked, subdivide-reads.Learnt, weight-reads.Asked, weight-reads.Learnt, conic-below, push-conic.Post)
+
+  abbrev unsure-claims : unsure-lts.Claims
+  unsure-claims = (is-near-reads.Asked, is-near-reads.Learnt, put-quad-reads.Asked, put-quad-reads.Learnt, halves-below, push-halves.Post)
+
+  conic-put-quad-requires : conic-lts.Need-put-quad-requires conic-claims conic-at push-conic.Post
+  conic-put-quad-requires c κs =
+      let a = c .before .before .before .before .before .args in
+      let k = conicAt (a .x0) (a .y0) (a .x1) (a .y1) (a .x2) (a .y2) (a .w) in
+      let h = one-quad _ k (a .start) _ (halve-none (a .depth) k (a .start) (c .before .before .before .if1 .taken)) in
+      let s = c .before .before .before .before .before .pre .1 in
+      (omega (arith, s, pow-pos (a .depth)), omega (arith, h .many, s), omega (arith, h .word, s))
+
+  conic-same-length : conic-lts.Need-same-length conic-claims conic-at push-conic.Post
+  conic-same-length c = search needs
+
+  conic-returns : conic-lts.Need-returns conic-claims conic-at push-conic.Post
+  conic-returns c =
+      let a = c .before .before .before .before .before .before .before .before .args in
+      let k = conicAt (a .x0) (a .y0) (a .x1) (a .y1) (a .x2) (a .y2) (a .w) in
+      let h = one-quad _ k (a .start) _ (halve-none (a .depth) k (a .start) (c .before .before .before .before .before .before .if1 .taken)) in
+      let e = c .before .before .put-quad .ensures in
+      let r = one-wrote _ k (a .start) h (e .0) (e .1 .0) (e .1 .1) in
+      (r .points, ((r .end, r .bits), (c .before .before .before .before .before .before .before .before .pre .1 .3, refl)))
+
+  conic-flatness-by-squares-requires : conic-lts.Need-flatness-by-squares-requires conic-claims conic-at push-conic.Post
+  conic-flatness-by-squares-requires c κs = search needs
+
+  conic-enum-told : conic-lts.Need-enum-told conic-claims conic-at push-conic.Post
+  conic-enum-told c = search needs
+
+  conic-put-quad-requires-2 : conic-lts.Need-put-quad-requires-2 conic-claims conic-at push-conic.Post
+  conic-put-quad-requires-2 c κs =
+      let a = c .before .before .before .before .before .before .before .before .args in
+      let k = conicAt (a .x0) (a .y0) (a .x1) (a .y1) (a .x2) (a .y2) (a .w) in
+      let h = one-quad _ k (a .start) _ (halve-flat (a .depth) k (a .start) (flatness-tells k Flat (sym (c .before .before .before .before .before .flatness-by-squares .ensures) ∙ c .before .before .before .enum-told .given .1))) in
+      let s = c .before .before .before .before .before .before .before .before .pre .1 in
+      (omega (arith, s, pow-pos (a .depth)), omega (arith, h .many, s), omega (arith, h .word, s))
+
+  conic-enum-told-2 : conic-lts.Need-enum-told-2 conic-claims conic-at push-conic.Post
+  conic-enum-told-2 c = search needs
+
+  conic-push-halves-requires : conic-lts.Need-push-halves-requires conic-claims conic-at push-conic.Post
+  conic-push-halves-requires c κs =
+      let a = c .before .before .before .before .before .before .before .before .before .args in
+      let s = c .before .before .before .before .before .before .before .before .before .pre in
+      let z = c .before .before .before .before .before .before .before .if1 .left in
+      let flat = flatness-tells (conicAt (a .x0) (a .y0) (a .x1) (a .y1) (a .x2) (a .y2) (a .w)) Curved (sym (c .before .before .before .before .before .before .flatness-by-squares .ensures) ∙ c .before .before .before .before .enum-told2 .given .1) in
+      (omega (arith, s .0), (omega (arith, z), flat, s .1 .0, s .1 .1, s .1 .2, s .1 .3))
+
+  conic-enum-told-3 : conic-lts.Need-enum-told-3 conic-claims conic-at push-conic.Post
+  conic-enum-told-3 c = search needs
+
+  conic-push-unsure-requires : conic-lts.Need-push-unsure-requires conic-claims conic-at push-conic.Post
+  conic-push-unsure-requires c κs =
+      let s = c .before .before .before .before .before .before .before .before .before .pre in
+      let z = c .before .before .before .before .before .before .before .if1 .left in
+      (omega (arith, s .0), (omega (arith, z), sym (c .before .before .before .before .before .before .flatness-by-squares .ensures) ∙ c .before .before .before .before .enum-told3 .given .1, s .1 .0, s .1 .1, s .1 .2, s .1 .3))
+
+  conic-same-length-2 : conic-lts.Need-same-length-2 conic-claims conic-at push-conic.Post
+  conic-same-length-2 c = search needs
+
+  conic-returns-2 : conic-lts.Need-returns-2 conic-claims conic-at push-conic.Post
+  conic-returns-2 c =
+      let a = c .before .before .before .before .before .before .before .before .before .before .before .args in
+      let k = conicAt (a .x0) (a .y0) (a .x1) (a .y1) (a .x2) (a .y2) (a .w) in
+      let h = one-quad _ k (a .start) _ (halve-flat (a .depth) k (a .start) (flatness-tells k Flat (sym (c .before .before .before .before .before .before .before .before .flatness-by-squares .ensures) ∙ c .before .before .before .before .before .before .enum-told .given .1))) in
+      let e = c .before .before .put-quad2 .ensures in
+      let r = one-wrote _ k (a .start) h (e .0) (e .1 .0) (e .1 .1) in
+      (r .points, ((r .end, r .bits), (c .before .before .before .before .before .before .before .before .before .before .before .pre .1 .3, refl)))
+
+  conic-same-length-3 : conic-lts.Need-same-length-3 conic-claims conic-at push-conic.Post
+  conic-same-length-3 c = search needs
+
+  conic-returns-3 : conic-lts.Need-returns-3 conic-claims conic-at push-conic.Post
+  conic-returns-3 c = c .before .before .push-halves .ensures
+
+  conic-same-length-4 : conic-lts.Need-same-length-4 conic-claims conic-at push-conic.Post
+  conic-same-length-4 c = search needs
+
+  conic-returns-4 : conic-lts.Need-returns-4 conic-claims conic-at push-conic.Post
+  conic-returns-4 c = c .before .before .push-unsure .ensures
+
+  halves-sub-d : halves-lts.Need-sub-d halves-claims halves-at push-halves.Post
+  halves-sub-d c = c .before .pre .1 .0
+
+  halves-subdivide-requires : halves-lts.Need-subdivide-requires halves-claims halves-at push-halves.Post
+  halves-subdivide-requires c κs = search needs
+
+  -- at a split: what both halves make together, and the half span as the code makes it
+  both : (c : halves-lts.After-weight-of-halves halves-claims halves-at push-halves.Post)
+      → let a = c .before .before .before .before .before .before .before .args in
+      let k = conicAt (a .x0) (a .y0) (a .x1) (a .y1) (a .x2) (a .y2) (a .w) in
+      let h = halvesOf k (c .before .before .before .before .before .subdivide .result) (c .weight-of-halves .result) in
+      BothHalves (halve (a .depth) k (a .start)) (halve (a .depth - 1) (h .left) (a .start)) (halve (a .depth - 1) (h .right) (a .start + 2 ^ (a .depth - 1)))
+  both c =
+      let a = c .before .before .before .before .before .before .before .args in
+      let s = c .before .before .before .before .before .before .before .pre .1 in
+      let k = conicAt (a .x0) (a .y0) (a .x1) (a .y1) (a .x2) (a .y2) (a .w) in
+      let m = c .before .before .before .before .before .subdivide in
+      let u = c .weight-of-halves in
+      both-halves (a .depth) k (halvesOf k (m .result) (u .result)) (a .start) (λ e. omega (arith, s .0, e)) (s .1) (ap (halvesOf k (m .result)) (u .ensures .0) ∙ m .ensures)
+
+  half : (c : halves-lts.After-weight-of-halves halves-claims halves-at push-halves.Post) → (1 * 2 ^ (c .before .before .before .before .before .before .before .args .depth - 1)) % 2 ^ 64 ≡ 2 ^ (c .before .before .before .before .before .before .before .args .depth - 1)
+  half c = bit (c .before .before .before .before .before .before .before .args .depth - 1) (omega (arith, c .before .before .before .before .before .before .before .pre .1))
+
+  halves-weight-of-halves-requires : halves-lts.Need-weight-of-halves-requires halves-claims halves-at push-halves.Post
+  halves-weight-of-halves-requires c κs =
+      let a = c .before .before .before .before .before .before .args in
+      let s = c .before .before .before .before .before .before .pre .1 in
+      (omega (arith, s), first-known (a .depth) (a .w) (a .memo .now) (s .0) (s .5 .1))
+
+  halves-push-conic-requires : halves-lts.Need-push-conic-requires halves-claims halves-at push-halves.Post
+  halves-push-conic-requires c κs =
+      let a = c .before .before .before .before .before .before .before .before .before .before .before .args in
+      let s = c .before .before .before .before .before .before .before .before .before .before .before .pre in
+      let w = c .before .before .before .before in
+      let b = both w in
+      let span = half-span (a .depth) (λ e. omega (arith, s .1 .0, e)) in
+      let u = w .weight-of-halves .ensures in
+      (omega (arith, s .0, s .1 .0), (omega (arith, s .1 .2), omega (arith, s .1 .3, span), (omega (arith, s .1 .4 .0, b .many), omega (arith, s .1 .4 .1, b .word)), first-half (a .depth) (a .w) _ (a .memo .now) _ (s .1 .0) (s .1 .5) (u .0) (u .1)))
+
+  halves-shl-next : halves-lts.Need-shl-next halves-claims halves-at push-halves.Post
+  halves-shl-next c = omega (arith, c .before .before .before .before .before .before .before .before .before .before .before .before .before .before .pre .1 .2)
+
+  halves-add-next : halves-lts.Need-add-next halves-claims halves-at push-halves.Post
+  halves-add-next c =
+      let s = c .before .before .before .before .before .before .before .before .before .before .before .before .before .before .pre .1 in
+      let a = c .before .before .before .before .before .before .before .before .before .before .before .before .before .before .args in
+      let e = half (c .before .before .before .before .before .before .before) in
+      let span = half-span (a .depth) (λ e. omega (arith, s .0, e)) in
+      omega (arith, s .3, span, e)
+
+  halves-push-conic-requires-2 : halves-lts.Need-push-conic-requires-2 halves-claims halves-at push-halves.Post
+  halves-push-conic-requires-2 c κs =
+      let a = c .before .before .before .before .before .before .before .before .before .before .before .before .before .before .before .before .before .before .args in
+      let s = c .before .before .before .before .before .before .before .before .before .before .before .before .before .before .before .before .before .before .pre in
+      let w = c .before .before .before .before .before .before .before .before .before .before .before in
+      let b = both w in
+      let e = half w in
+      let first = c .before .before .before .before .before .before .push-conic in
+      let d = a .depth - 1 in
+      let h = halvesOf (conicAt (a .x0) (a .y0) (a .x1) (a .y1) (a .x2) (a .y2) (a .w)) (c .before .before .before .before .before .before .before .before .before .before .before .before .before .before .before .before .subdivide .result) (w .weight-of-halves .result) in
+      let r : ℕ → List Piece = λ k. halve d (h .right) (a .start + k) in
+      let n = ap (λ (k : ℕ). length (r k)) e in
+      let m = ap (λ (k : ℕ). wordOf (r k)) e in
+      let span = half-span (a .depth) (λ z. omega (arith, s .1 .0, z)) in
+      (omega (arith, s .0, s .1 .0), (omega (arith, s .1 .2), omega (arith, s .1 .3, span, e), (omega (arith, s .1 .4 .0, b .many, n, first .ensures .1 .0 .0, first .kept), omega (arith, s .1 .4 .1, b .word, m, first .ensures .1 .0 .1)), first .ensures .1 .1 .0))
+
+  halves-same-length : halves-lts.Need-same-length halves-claims halves-at push-halves.Post
+  halves-same-length c = search needs
+
+  halves-returns : halves-lts.Need-returns halves-claims halves-at push-halves.Post
+  halves-returns c =
+      let a = c .before .before .before .before .before .before .before .before .before .before .before .before .before .before .before .before .before .before .before .before .before .args in
+      let s = c .before .before .before .before .before .before .before .before .before .before .before .before .before .before .before .before .before .before .before .before .before .pre .1 in
+      let w = c .before .before .before .before .before .before .before .before .before .before .before .before .before .before in
+      let first = c .before .before .before .before .before .before .before .before .before .push-conic in
+      let second = c .before .before .push-conic2 in
+      let d = a .depth - 1 in
+      let k = conicAt (a .x0) (a .y0) (a .x1) (a .y1) (a .x2) (a .y2) (a .w) in
+      let h = halvesOf k (c .before .before .before .before .before .before .before .before .before .before .before .before .before .before .before .before .before .before .before .subdivide .result) (w .weight-of-halves .result) in
+      let l = halve d (h .left) (a .start) in
+      let r : ℕ → List Piece = λ i. halve d (h .right) (a .start + i) in
+      let x : Wrote l (a .points .now) (first .last .0) (a .at .now) (first .last .1 .1 .0) (a .word .now) (first .last .1 .1 .1 .0) = record { points = first .ensures .0; end = first .ensures .1 .0 .0; bits = first .ensures .1 .0 .1 } in
+      let after : ℕ → Type 0 = λ i. Wrote (r i) (first .last .0) (second .last .0) (first .last .1 .1 .0) (second .last .1 .1 .0) (first .last .1 .1 .1 .0) (second .last .1 .1 .1 .0) in
+      let y : after (2 ^ d) = subst after (half w) record { points = second .ensures .0; end = second .ensures .1 .0 .0; bits = second .ensures .1 .0 .1 } in
+      let z = both-wrote (halve (a .depth) k (a .start)) l (r (2 ^ d)) (omega (arith, s .4 .0)) (both w) x y in
+      let u = w .weight-of-halves .ensures in
+      let m = both-known (a .depth) (a .w) _ (a .memo .now) _ _ (s .0) (s .2) (s .5) (u .0) (u .1) (second .ensures .1 .1 .0) (second .ensures .1 .1 .1 ∙ first .ensures .1 .1 .1) in
+      (z .points, ((z .end, z .bits), (m .known, m .past)))
+
+  unsure-is-near-requires : unsure-lts.Need-is-near-requires unsure-claims unsure-at push-unsure.Post
+  unsure-is-near-requires c κs = search needs
+
+  unsure-put-quad-requires : unsure-lts.Need-put-quad-requires unsure-claims unsure-at push-unsure.Post
+  unsure-put-quad-requires c κs =
+      let a = c .before .before .before .before .before .before .args in
+      let k = conicAt (a .x0) (a .y0) (a .x1) (a .y1) (a .x2) (a .y2) (a .w) in
+      let h = one-quad _ k (a .start) _ (halve-flat (a .depth) k (a .start) (flatness-tells k Unsure (c .before .before .before .before .before .before .pre .1 .1) ∙ sym (c .before .before .before .before .is-near .ensures) ∙ c .before .before .before .if1 .taken)) in
+      let s = c .before .before .before .before .before .before .pre .1 in
+      (omega (arith, s .3, pow-pos (a .depth)), omega (arith, h .many, s .4 .0), omega (arith, h .word, s .4 .1))
+
+  unsure-same-length : unsure-lts.Need-same-length unsure-claims unsure-at push-unsure.Post
+  unsure-same-length c = search needs
+
+  unsure-returns : unsure-lts.Need-returns unsure-claims unsure-at push-unsure.Post
+  unsure-returns c =
+      let a = c .before .before .before .before .before .before .before .before .before .args in
+      let k = conicAt (a .x0) (a .y0) (a .x1) (a .y1) (a .x2) (a .y2) (a .w) in
+      let h = one-quad _ k (a .start) _ (halve-flat (a .depth) k (a .start) (flatness-tells k Unsure (c .before .before .before .before .before .before .before .before .before .pre .1 .1) ∙ sym (c .before .before .before .before .before .before .before .is-near .ensures) ∙ c .before .before .before .before .before .before .if1 .taken)) in
+      let e = c .before .before .put-quad .ensures in
+      let r = one-wrote _ k (a .start) h (e .0) (e .1 .0) (e .1 .1) in
+      (r .points, ((r .end, r .bits), (c .before .before .before .before .before .before .before .before .before .pre .1 .5, refl)))
+
+  unsure-push-halves-requires : unsure-lts.Need-push-halves-requires unsure-claims unsure-at push-unsure.Post
+  unsure-push-halves-requires c κs =
+      let a = c .before .before .before .before .before .before .before .args in
+      let s = c .before .before .before .before .before .before .before .pre in
+      let k = conicAt (a .x0) (a .y0) (a .x1) (a .y1) (a .x2) (a .y2) (a .w) in
+      (omega (arith, s .0), (s .1 .0, flatness-tells k Unsure (s .1 .1) ∙ sym (c .before .before .before .before .before .is-near .ensures) ∙ c .before .before .before .before .if1 .left, s .1 .2, s .1 .3, s .1 .4, s .1 .5))
+
+  unsure-same-length-2 : unsure-lts.Need-same-length-2 unsure-claims unsure-at push-unsure.Post
+  unsure-same-length-2 c = search needs
+
+  unsure-returns-2 : unsure-lts.Need-returns-2 unsure-claims unsure-at push-unsure.Post
+  unsure-returns-2 c = c .before .before .push-halves .ensures
+
+pub +push-conic+push-halves+push-unsure-spec : {M : Type 1} → statement M
++push-conic+push-halves+push-unsure-spec =
+    close μ-conic μ-halves μ-unsure
+    (λ t. conic-lts.spec (conic-claims t) (conic-at t) push-conic.Post
+    (conic-put-quad-requires t)
+    (conic-same-length t)
+    (conic-returns t)
+    (conic-flatness-by-squares-requires t)
+    (conic-enum-told t)
+    (conic-put-quad-requires-2 t)
+    (conic-enum-told-2 t)
+    (conic-push-halves-requires t)
+    (conic-enum-told-3 t)
+    (conic-push-unsure-requires t)
+    (conic-same-length-2 t)
+    (conic-returns-2 t)
+    (conic-same-length-3 t)
+    (conic-returns-3 t)
+    (conic-same-length-4 t)
+    (conic-returns-4 t))
+    (λ t. halves-lts.spec (halves-claims t) (halves-at t) push-halves.Post
+    (halves-sub-d t)
+    (halves-subdivide-requires t)
+    (halves-weight-of-halves-requires t)
+    (halves-push-conic-requires t)
+    (halves-shl-next t)
+    (halves-add-next t)
+    (halves-push-conic-requires-2 t)
+    (halves-same-length t)
+    (halves-returns t))
+    (λ t. unsure-lts.spec (unsure-claims t) (unsure-at t) push-unsure.Post
+    (unsure-is-near-requires t)
+    (unsure-put-quad-requires t)
+    (unsure-same-length t)
+    (unsure-returns t)
+    (unsure-push-halves-requires t)
+    (unsure-same-length-2 t)
+    (unsure-returns-2 t))
