@@ -13,7 +13,7 @@ use lib.Ieee.{Float}
 use Rattle.geometry.specs.declared.Point.{Point}
 use Rattle.conic.specs.declared.Conic.{Conic}
 use Rattle.conic.specs.Conic.{Halves, flatOf, splitOf}
-use Rattle.conic.specs.Halving.{Piece, pieceOf, halve, piecesOf, wordOf}
+use Rattle.conic.specs.Halving.{Piece, pieceOf, halve, piecesOf, countOf, wordOf}
 use Rattle.conic.proofs.Halving.{halve-split, word-append}
 use Rattle.conic.proofs.Whole.{halve-ends}
 use Rattle.stream.specs.declared.Builder.{Builder}
@@ -119,13 +119,17 @@ both-wrote ps l r {fs} {us} {gs} {at} {mid} h b x y =
     let k : 2 * mid ≡ 2 * at + length (allFloats (quadsOf l)) = omega arith in
     record {
       points =
-        y .points ∙ put-after fs us (2 * at) (2 * mid) (allFloats (quadsOf l)) (allFloats (quadsOf r)) h k (x .points)
-        ∙ ap (put fs (2 * at)) (sym (ap allFloats (b .quads) ∙ floats-append (quadsOf l) (quadsOf r)));
+          y .points ∙ put-after fs us (2 * at) (2 * mid) (allFloats (quadsOf l)) (allFloats (quadsOf r)) h k (x .points)
+          ∙ ap (put fs (2 * at)) (sym (ap allFloats (b .quads) ∙ floats-append (quadsOf l) (quadsOf r)));
       end = omega (arith, x .end, y .end);
       bits = omega (arith, x .bits, y .bits);
     }
 
 -- ---- a whole conic
+
+pub count-is : (c : Conic) → countOf c ≡ length (piecesOf c)
+unfolding countOf
+count-is c = refl
 
 -- bytes and points in place are the quads pushed, wherever start and pen are
 pub whole-pushed : (v p n : ℕ) (c : Conic) (vs ws : List ℕ) (fs gs : List Float) → v + length (piecesOf c) ≤ length vs → 2 * (p + 2 * length (piecesOf c)) ≤ length fs → n ≡ length (piecesOf c)

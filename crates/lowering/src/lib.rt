@@ -31,7 +31,7 @@ struct Marks {
     word: u64,
 }
 
-// One quad as verb v, its points from p on, and the bit where it starts.
+// A conic's only quad, as verb v and with its points from p on.
 fn push_piece(
     v: usize,
     p: usize,
@@ -39,11 +39,10 @@ fn push_piece(
     points: &mut [f32],
     ctrl: Point,
     to: Point,
-    start: usize,
 ) -> Marks
-    requires { ⌜ (start < 64) × (v < length (now verbs)) × (2 * (p + 2) ≤ length (now points)) ⌝ }
+    requires { ⌜ (v < length (now verbs)) × (2 * (p + 2) ≤ length (now points)) ⌝ }
     ensures { λ r. ⌜ ((from pen : Point) → state (builderAt (v + r .count) (p + 2 * r .count) from to) (now (verbs .exit)) (now (points .exit)) ≡ push (state (builderAt v p from pen) (now (verbs .entry)) (now (points .entry))) (Element.Quad ctrl to)) ⌝ }
-    ensures { λ r. ⌜ (r .count ≡ 1) × (r .word ≡ 2 ^ start) ⌝ }
+    ensures { λ r. ⌜ (r .count ≡ 1) × (r .word ≡ 1) ⌝ }
 {
     let b = Builder {
         verbs: v,
@@ -52,10 +51,7 @@ fn push_piece(
         pen: ctrl,
     };
     stream::push_quad(b, verbs, points, ctrl, to);
-    Marks {
-        count: 1,
-        word: 1 << start,
-    }
+    Marks { count: 1, word: 1 }
 }
 
 // A quad's points from point `at` on, and the bit where it starts.
@@ -126,8 +122,36 @@ fn push_conic(
     let f = conic::flatness_by_squares(x0, y0, x1, y1, x2, y2, w);
     match f {
         Flatness::Flat => put_quad(points, at, word, x1, y1, x2, y2, start),
-        Flatness::Curved => push_halves(points, memo, at, word, x0, y0, x1, y1, x2, y2, w, depth, start),
-        Flatness::Unsure => push_unsure(points, memo, at, word, x0, y0, x1, y1, x2, y2, w, depth, start),
+        Flatness::Curved => push_halves(
+            points,
+            memo,
+            at,
+            word,
+            x0,
+            y0,
+            x1,
+            y1,
+            x2,
+            y2,
+            w,
+            depth,
+            start,
+        ),
+        Flatness::Unsure => push_unsure(
+            points,
+            memo,
+            at,
+            word,
+            x0,
+            y0,
+            x1,
+            y1,
+            x2,
+            y2,
+            w,
+            depth,
+            start,
+        ),
     }
 }
 
@@ -156,7 +180,21 @@ fn push_unsure(
         put_quad(points, at, word, x1, y1, x2, y2, start);
         return;
     }
-    push_halves(points, memo, at, word, x0, y0, x1, y1, x2, y2, w, depth, start);
+    push_halves(
+        points,
+        memo,
+        at,
+        word,
+        x0,
+        y0,
+        x1,
+        y1,
+        x2,
+        y2,
+        w,
+        depth,
+        start,
+    );
 }
 
 // The same of a conic that is not flat.
@@ -186,9 +224,37 @@ fn push_halves(
     let m = h.mid;
     let b = h.right_ctrl;
     let u = weight_of_halves(memo, d, w);
-    push_conic(points, memo, at, word, x0, y0, a.x, a.y, m.x, m.y, u, d, start);
+    push_conic(
+        points,
+        memo,
+        at,
+        word,
+        x0,
+        y0,
+        a.x,
+        a.y,
+        m.x,
+        m.y,
+        u,
+        d,
+        start,
+    );
     let next = start + (1 << d);
-    push_conic(points, memo, at, word, m.x, m.y, b.x, b.y, x2, y2, u, d, next);
+    push_conic(
+        points,
+        memo,
+        at,
+        word,
+        m.x,
+        m.y,
+        b.x,
+        b.y,
+        x2,
+        y2,
+        u,
+        d,
+        next,
+    );
 }
 
 // The same of a whole conic that is not flat, as far as the squared lengths tell.
@@ -279,7 +345,7 @@ fn push_quads(v: usize, p: usize, verbs: &mut [u8], points: &mut [f32], c: Conic
         c.weight,
     );
     match f {
-        Flatness::Flat => push_piece(v, p, verbs, points, c.ctrl, c.to, 0),
+        Flatness::Flat => push_piece(v, p, verbs, points, c.ctrl, c.to),
         Flatness::Curved => push_curve(false, v, p, verbs, points, c),
         Flatness::Unsure => push_curve(true, v, p, verbs, points, c),
     }

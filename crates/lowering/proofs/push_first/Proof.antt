@@ -1,9 +1,18 @@
+use mathlib.Core.Path.{ap, _∙_}
+use mathlib.Core.Bool.{Bool, cond}
+use lib.Dec.{lit<, lit≤}
 use borrow.Author.Needs.{needs}
+use Rattle.conic.specs.declared.Flatness.the-variants.{Curved, Unsure}
+use Rattle.conic.proofs.Flat.{flatness-tells}
+use Rattle.lowering.proofs.Memo.{none-known}
 use Rattle.lowering.proofs.push_first.Statement.{statement}
 use Rattle.lowering.proofs.push_first.Tie as tie
 
 push-unsure-requires : tie.Need-push-unsure-requires
-push-unsure-requires c κs = ?
+push-unsure-requires c κs =
+    let s = c .before .before .before .before .before .before .pre in
+    let unsure = s .0 ∙ ap (λ (b : Bool). cond b Unsure Curved) (c .before .before .before .before .if1 .taken) in
+    (lit< tt, unsure, lit≤ tt, lit≤ tt, s .1, none-known _)
 
 same-length : tie.Need-same-length
 same-length c = search needs
@@ -12,7 +21,11 @@ returns : tie.Need-returns
 returns c = search needs
 
 push-halves-requires : tie.Need-push-halves-requires
-push-halves-requires c κs = ?
+push-halves-requires c κs =
+    let a = c .before .before .before .before .before .before .args in
+    let s = c .before .before .before .before .before .before .pre in
+    let curved = s .0 ∙ ap (λ (b : Bool). cond b Unsure Curved) (c .before .before .before .before .if1 .left) in
+    (lit< tt, flatness-tells (a .c) Curved curved, lit≤ tt, lit≤ tt, s .1, none-known _)
 
 same-length-2 : tie.Need-same-length-2
 same-length-2 c = search needs
