@@ -78,8 +78,8 @@ fn put_quad(
     *word = *word + (1 << start);
 }
 
-// The weight of both halves of a conic that may be halved d times after this: all of that depth have the
-// same, so its root is taken once.
+// The weight of both halves of a conic, which may be halved d times: all parts that may be halved so often have
+// the same weight, so its root is taken once. 0 stands for a weight that is not known yet.
 fn weight_of_halves(memo: &mut [f32; 6], d: usize, w: f32) -> f32
     requires { ⌜ (d < 6) × Known (getD (now memo) d nan) (halfWeightOf w) ⌝ }
     ensures { λ r. ⌜ (r ≡ halfWeightOf w) × (now (memo .exit) ≡ set (now (memo .entry)) d (halfWeightOf w)) ⌝ }
@@ -93,8 +93,9 @@ fn weight_of_halves(memo: &mut [f32; 6], d: usize, w: f32) -> f32
     known
 }
 
-// The quads of a conic, their points from point `at` on, and the bits where they start. The three that
-// follow call each other: in place of one another they would keep what a quad alone does not need.
+// The quads of a conic, their points from point `at` on, and the bits where they start. Each split calls it for
+// both halves, with the depth still allowed falling from 6. Splits and doubtful cases have functions of their
+// own, so that the commonest case, one quad, saves no registers.
 fn push_conic(
     points: &mut [f32],
     memo: &mut [f32; 6],
