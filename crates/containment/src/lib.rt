@@ -5,19 +5,21 @@ ghost use mathlib.Core.Bool.{cond, _&&_, _||_};
 ghost use lib.Ieee.{lt};
 ghost use Rattle.ieee.specs.Basic.{absOf};
 ghost use Rattle.octant.specs.Binary32.{zero};
+ghost use Rattle.octant.specs.Octant.{point};
 ghost use Rattle.containment.specs.Contains.{octantContainsOf, within, squareContains, roundContains, squareCorner, normContains, cornerContainsOf, containsOf};
-ghost use Rattle.containment.specs.Parts.{inSuperellipse, asksPowers};
+ghost use Rattle.containment.specs.Parts.{inSuperellipse, asksPowers, arcAnswerOf};
 ghost use Rattle.containment.specs.Arcs.{beyondCircle, arcsOf, beyondArcs, missesOf, arcsIn};
 use geometry::Point;
 use octant::Octant;
 use quadrant::Quadrant;
 use shape::RoundSuperellipse;
 
-// Whether p is inside a superellipse of the half-extent a and the degree n, its border included.
-fn superellipse_contains(p: Point, a: f32, n: f32) -> bool
-    ensures { λ r. ⌜ r ≡ inSuperellipse p a n ⌝ }
+// Whether a point is inside a superellipse of the half-extent a and the degree n, its border included. Its floats come
+// one by one: a point would be packed into one word and taken apart again.
+fn superellipse_contains(x: f32, y: f32, a: f32, n: f32) -> bool
+    ensures { λ r. ⌜ r ≡ inSuperellipse (point x y) a n ⌝ }
 {
-    let p_se = geometry::shrink(p, a);
+    let p_se = geometry::shrink(Point { x, y }, a);
     let powers = exponential::pow_pair(p_se.x, n, p_se.y, n);
     powers.first + powers.second <= 1.0
 }
@@ -52,10 +54,39 @@ pub fn octant_contains(param: Octant, p: Point) -> bool
         return true;
     }
     if p.x <= param.circle_start.x {
-        return superellipse_contains(p, param.se_a, param.se_n);
+        return superellipse_contains(p.x, p.y, param.se_a, param.se_n);
     }
     let circle_radius = geometry::distance_squared(param.circle_start, param.circle_center);
     geometry::length_squared(geometry::sub(p, param.circle_center)) < circle_radius
+}
+
+// What an octant says of a point before any power is worked out; asked, its superellipse decides.
+pub enum ArcAnswer {
+    Inside,
+    Outside,
+    Asked,
+}
+
+fn arc_answer(param: Octant, p: Point) -> ArcAnswer
+    ensures { λ r. ⌜ r ≡ arcAnswerOf param p ⌝ }
+{
+    if p.x < 0.0 {
+        return ArcAnswer::Inside;
+    }
+    if p.y < 0.0 {
+        return ArcAnswer::Inside;
+    }
+    if p.y < p.x {
+        return ArcAnswer::Inside;
+    }
+    if p.x <= param.circle_start.x {
+        return ArcAnswer::Asked;
+    }
+    let radius = geometry::distance_squared(param.circle_start, param.circle_center);
+    if geometry::length_squared(geometry::sub(p, param.circle_center)) < radius {
+        return ArcAnswer::Inside;
+    }
+    ArcAnswer::Outside
 }
 
 // A square corner owns its top and left borders, where the scale is negative, but not its bottom and right ones.
@@ -88,7 +119,7 @@ fn round_contains(param: Quadrant, norm_point: Point) -> bool
         y: from_right.x,
     };
     if asks_powers(param.top, from_top) {
-        if superellipse_contains(from_top, param.top.se_a, param.top.se_n) {
+        if superellipse_contains(from_top.x, from_top.y, param.top.se_a, param.top.se_n) {
             return octant_contains(param.right, flipped);
         }
         return false;
@@ -96,8 +127,39 @@ fn round_contains(param: Quadrant, norm_point: Point) -> bool
     octant_contains(param.top, from_top) && octant_contains(param.right, flipped)
 }
 
+// The same, to be called from one place and compiled there. The powers come last, so that nothing is kept across them for
+// a point that asks for none.
+pub fn arcs_contain(param: Quadrant, norm_point: Point) -> bool
+    ensures { λ r. ⌜ r ≡ roundContains param «norm_point» ⌝ }
+{
+    let top = param.top;
+    let right = param.right;
+    let p = geometry::sub(norm_point, top.offset);
+    let from_right = geometry::sub(norm_point, right.offset);
+    let q = Point {
+        x: from_right.y,
+        y: from_right.x,
+    };
+    match arc_answer(top, p) {
+        ArcAnswer::Outside => false,
+        ArcAnswer::Asked => match arc_answer(right, q) {
+            ArcAnswer::Outside => false,
+            ArcAnswer::Asked => {
+                superellipse_contains(p.x, p.y, top.se_a, top.se_n)
+                    && superellipse_contains(q.x, q.y, right.se_a, right.se_n)
+            }
+            ArcAnswer::Inside => superellipse_contains(p.x, p.y, top.se_a, top.se_n),
+        },
+        ArcAnswer::Inside => match arc_answer(right, q) {
+            ArcAnswer::Outside => false,
+            ArcAnswer::Asked => superellipse_contains(q.x, q.y, right.se_a, right.se_n),
+            ArcAnswer::Inside => true,
+        },
+    }
+}
+
 // A degree that is a NaN is round.
-fn is_square(param: Quadrant) -> bool
+pub fn is_square(param: Quadrant) -> bool
     ensures { λ r. ⌜ r ≡ squareCorner param ⌝ }
 {
     if param.top.se_n < 2.0 {
@@ -106,7 +168,7 @@ fn is_square(param: Quadrant) -> bool
     param.right.se_n < 2.0
 }
 
-fn norm_contains(param: Quadrant, norm_point: Point) -> bool
+pub fn norm_contains(param: Quadrant, norm_point: Point) -> bool
     ensures { λ r. ⌜ r ≡ normContains param «norm_point» ⌝ }
 {
     if is_square(param) {

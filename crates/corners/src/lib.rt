@@ -1,6 +1,9 @@
 // What the outline of a shape draws, as placed points: a corner is two lines, or two octants of two conics and a cubic
 // each. An octant's curves are solved once, wherever they are placed.
 ghost use mathlib.Core.Path.{_≡_};
+ghost use mathlib.Core.Bool.{true, false};
+ghost use Rattle.geometry.specs.Point.{one};
+ghost use Rattle.octant.specs.Octant.{point};
 ghost use Rattle.corners.specs.Corners.{squareCorner, curvesOf, placementOf, placedConic, placedCubic, forwardsCalls, backwardsCalls, nextOf, squareCalls, solvedCalls, cornerCalls, equalCorners, unequalCorners, cornersOf, startPoint};
 ghost use Rattle.corners.specs.Calls.{conicCall, cubicCall, callsForwards, callsBackwards, callsOf, callLists, drawingOf, outlineOf};
 use arcs::Placement;
@@ -20,6 +23,17 @@ pub struct Curves {
 struct BothCurves {
     top: Curves,
     right: Curves,
+}
+
+// Of two corners.
+struct FourCurves {
+    first: BothCurves,
+    second: BothCurves,
+}
+
+struct TwoCorners {
+    first: Corner,
+    second: Corner,
 }
 
 // A conic from the pen, and a cubic.
@@ -102,6 +116,43 @@ fn solve(top: Octant, right: Octant) -> BothCurves
         right: Curves {
             circle: right_circle,
             conics: right_conics,
+        },
+    }
+}
+
+// Two corners in step.
+fn solve_two(p: Quadrant, q: Quadrant) -> FourCurves
+    ensures { λ r. ⌜ (r .first .top ≡ curvesOf (p .top)) × (r .first .right ≡ curvesOf (p .right)) × (r .second .top ≡ curvesOf (q .top)) × (r .second .right ≡ curvesOf (q .right)) ⌝ }
+{
+    let c1 = arcs::circular_arc_points(p.top);
+    let c2 = arcs::circular_arc_points(p.right);
+    let c3 = arcs::circular_arc_points(q.top);
+    let c4 = arcs::circular_arc_points(q.right);
+    let conics = arcs::four_conics(p.top, p.right, q.top, q.right);
+    let first = conics.first;
+    let second = conics.second;
+    let third = conics.third;
+    let fourth = conics.fourth;
+    FourCurves {
+        first: BothCurves {
+            top: Curves {
+                circle: c1,
+                conics: first,
+            },
+            right: Curves {
+                circle: c2,
+                conics: second,
+            },
+        },
+        second: BothCurves {
+            top: Curves {
+                circle: c3,
+                conics: third,
+            },
+            right: Curves {
+                circle: c4,
+                conics: fourth,
+            },
         },
     }
 }
@@ -227,6 +278,48 @@ fn draw_corner(param: Quadrant, reverse: bool, scale_sign: Point) -> Corner
     round_corner(param, top, right, reverse, scale)
 }
 
+fn draw_apart(p: Quadrant, q: Quadrant) -> TwoCorners
+    ensures { λ r. ⌜ (callsOf (r .first) ≡ cornerCalls p false (point one one)) × (callsOf (r .second) ≡ cornerCalls q true (point one one)) ⌝ }
+{
+    let sign = Point { x: 1.0, y: 1.0 };
+    TwoCorners {
+        first: draw_corner(p, false, sign),
+        second: draw_corner(q, true, sign),
+    }
+}
+
+// Two corners that follow on each other, in step if neither is square.
+fn draw_two(p: Quadrant, q: Quadrant) -> TwoCorners
+    ensures { λ r. ⌜ (callsOf (r .first) ≡ cornerCalls p false (point one one)) × (callsOf (r .second) ≡ cornerCalls q true (point one one)) ⌝ }
+{
+    if is_square(p) {
+        return draw_apart(p, q);
+    }
+    if is_square(q) {
+        return draw_apart(p, q);
+    }
+    let sign = Point { x: 1.0, y: 1.0 };
+    let solved = solve_two(p, q);
+    let first = solved.first;
+    let second = solved.second;
+    TwoCorners {
+        first: round_corner(
+            p,
+            first.top,
+            first.right,
+            false,
+            geometry::mul(p.signed_scale, sign),
+        ),
+        second: round_corner(
+            q,
+            second.top,
+            second.right,
+            true,
+            geometry::mul(q.signed_scale, sign),
+        ),
+    }
+}
+
 // One quadrant, drawn four ways.
 fn equal_corners(tr: Quadrant) -> Corners
     ensures { λ r. ⌜ callLists r ≡ equalCorners tr ⌝ }
@@ -257,12 +350,17 @@ fn equal_corners(tr: Quadrant) -> Corners
 fn unequal_corners(shape: RoundSuperellipse) -> Corners
     ensures { λ r. ⌜ callLists r ≡ unequalCorners shape ⌝ }
 {
-    let one = Point { x: 1.0, y: 1.0 };
+    let right = draw_two(shape.top_right, shape.bottom_right);
+    let left = draw_two(shape.bottom_left, shape.top_left);
+    let first = right.first;
+    let second = right.second;
+    let third = left.first;
+    let fourth = left.second;
     Corners {
-        first: draw_corner(shape.top_right, false, one),
-        second: draw_corner(shape.bottom_right, true, one),
-        third: draw_corner(shape.bottom_left, false, one),
-        fourth: draw_corner(shape.top_left, true, one),
+        first,
+        second,
+        third,
+        fourth,
     }
 }
 

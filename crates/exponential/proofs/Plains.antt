@@ -14,6 +14,12 @@ both true true h = (refl, refl)
 both true false h = absurd (true≢false (sym h))
 both false b h = absurd (true≢false (sym h))
 
+pub all-four : (a b c d : Bool) → (a && b && c && d) ≡ true → (a ≡ true) × (b ≡ true) × (c ≡ true) × (d ≡ true)
+all-four a b c d h =
+    let abc = both (a && b && c) d h in
+    let ab = both (a && b) c (abc .0) in
+    (both a b (ab .0) .0, both a b (ab .0) .1, ab .1, abc .1)
+
 none-of-three : (a b c : Bool) → not (a || b || c) ≡ true → (a ≡ false) × (b ≡ false) × (c ≡ false)
 none-of-three true b c h = absurd (true≢false (sym h))
 none-of-three false true c h = absurd (true≢false (sym h))

@@ -12,6 +12,7 @@ ghost use Rattle.exponential.specs.Logarithm.{lnAt, lnOf};
 ghost use Rattle.exponential.specs.Exponential.{floorOf, within, expOf};
 ghost use Rattle.exponential.specs.Power.{zero, infinite, mainOf, powOf};
 ghost use Rattle.exponential.specs.Plain.{moderate, scaledOf, plain};
+use series::Four;
 use series::Pair;
 
 const LN2: f64 = 0.6931471805599453;
@@ -249,5 +250,98 @@ pub fn pow_pair(a: f32, y: f32, b: f32, z: f32) -> Powers
     Powers {
         first: pow(a, y),
         second: pow(b, z),
+    }
+}
+
+// Four powers, likewise: two steps of two, of which neither waits for the other.
+pub struct FourPowers {
+    pub first: f32,
+    pub second: f32,
+    pub third: f32,
+    pub fourth: f32,
+}
+
+fn ln_four(u: f64, v: f64, w: f64, x: f64) -> Four
+    requires { ⌜ T (fits binary32 u) × T (positive u) ⌝ ∗ ⌜ T (fits binary32 v) × T (positive v) ⌝ ∗ ⌜ T (fits binary32 w) × T (positive w) ⌝ ∗ ⌜ T (fits binary32 x) × T (positive x) ⌝ }
+    ensures { λ r. ⌜ (r .first ≡ lnOf u) × (r .second ≡ lnOf v) × (r .third ≡ lnOf w) × (r .fourth ≡ lnOf x) ⌝ }
+{
+    let p = parts_of(u);
+    let q = parts_of(v);
+    let m = parts_of(w);
+    let n = parts_of(x);
+    let s = (p.f - 1.0) / (p.f + 1.0);
+    let t = (q.f - 1.0) / (q.f + 1.0);
+    let y = (m.f - 1.0) / (m.f + 1.0);
+    let z = (n.f - 1.0) / (n.f + 1.0);
+    let c = series::odd_reciprocals();
+    let h = series::horner_four(&c[..12], s * s, t * t, y * y, z * z);
+    Four {
+        first: p.e * LN2 + (2.0 * s) * h.first,
+        second: q.e * LN2 + (2.0 * t) * h.second,
+        third: m.e * LN2 + (2.0 * y) * h.third,
+        fourth: n.e * LN2 + (2.0 * z) * h.fourth,
+    }
+}
+
+fn exp_four(t: f64, u: f64, v: f64, w: f64) -> Four
+    ensures { λ r. ⌜ (r .first ≡ expOf t) × (r .second ≡ expOf u) × (r .third ≡ expOf v) × (r .fourth ≡ expOf w) ⌝ }
+{
+    if is_moderate(t) & is_moderate(u) & is_moderate(v) & is_moderate(w) {
+        let p = reduce(t);
+        let q = reduce(u);
+        let m = reduce(v);
+        let n = reduce(w);
+        let c = series::factorial_reciprocals();
+        let h = series::horner_four(&c[..14], p.r, q.r, m.r, n.r);
+        return Four {
+            first: h.first * p.power,
+            second: h.second * q.power,
+            third: h.third * m.power,
+            fourth: h.fourth * n.power,
+        };
+    }
+    Four {
+        first: exp(t),
+        second: exp(u),
+        third: exp(v),
+        fourth: exp(w),
+    }
+}
+
+fn main_four(a: f32, w: f32, b: f32, x: f32, c: f32, y: f32, d: f32, z: f32) -> FourPowers
+    requires { ⌜ T (positive a) ⌝ ∗ ⌜ T (positive b) ⌝ ∗ ⌜ T (positive c) ⌝ ∗ ⌜ T (positive d) ⌝ }
+    ensures { λ r. ⌜ (r .first ≡ mainOf a w) × (r .second ≡ mainOf b x) × (r .third ≡ mainOf c y) × (r .fourth ≡ mainOf d z) ⌝ }
+{
+    let l = ln_four(
+        ieee::widen(a),
+        ieee::widen(b),
+        ieee::widen(c),
+        ieee::widen(d),
+    );
+    let e = exp_four(
+        ieee::widen(w) * l.first,
+        ieee::widen(x) * l.second,
+        ieee::widen(y) * l.third,
+        ieee::widen(z) * l.fourth,
+    );
+    FourPowers {
+        first: ieee::narrow(e.first),
+        second: ieee::narrow(e.second),
+        third: ieee::narrow(e.third),
+        fourth: ieee::narrow(e.fourth),
+    }
+}
+
+pub fn pow_four(a: f32, w: f32, b: f32, x: f32, c: f32, y: f32, d: f32, z: f32) -> FourPowers
+    ensures { λ r. ⌜ (r .first ≡ powOf a w) × (r .second ≡ powOf b x) × (r .third ≡ powOf c y) × (r .fourth ≡ powOf d z) ⌝ }
+{
+    if is_plain(a, w) & is_plain(b, x) & is_plain(c, y) & is_plain(d, z) {
+        return main_four(a, w, b, x, c, y, d, z);
+    }
+    FourPowers {
+        first: pow(a, w),
+        second: pow(b, x),
+        third: pow(c, y),
+        fourth: pow(d, z),
     }
 }

@@ -8,7 +8,8 @@ use lib.ListN.{length, getD}
 use lib.Ieee.{Float, nan, eq, ne}
 use Rattle.geometry.specs.declared.Point.{Point}
 use Rattle.octant.specs.Binary32 as binary32
-use Rattle.containment.specs.Contains.{cornerContainsOf, containsOf}
+use Rattle.quadrant.specs.declared.Quadrant.{Quadrant}
+use Rattle.containment.specs.Contains.{squareCorner, roundContains, normContains, cornerContainsOf, containsOf}
 use Rattle.ffi_shape.specs.Layout.{quadrantAt, shapeAt}
 use Rattle.ffi_shape.specs.Making.{cornersHold, holdsOf}
 
@@ -38,27 +39,21 @@ all-four true true false d = refl
 all-four true false c d = refl
 all-four false b c d = refl
 
-pub holds-all : (fs : List Float) (p : Point) (differ : Bool) → differ ≡ eq (getD fs 88 nan) binary32.zero → cornersHold fs p differ (cond differ 4 1) 0 ≡ containsOf (shapeAt fs) p
+-- by all four where the last float is 0, else by the first, which describes them all
+pub all-hold : (fs : List Float) (p : Point) → eq (getD fs 88 nan) binary32.zero ≡ true → cornersHold fs p true 4 0 ≡ containsOf (shapeAt fs) p
 unfolding cornersHold containsOf shapeAt ne
-holds-all fs p true e = all-four (cornerContainsOf (quadrantAt fs 0) p true) (cornerContainsOf (quadrantAt fs 22) p true) (cornerContainsOf (quadrantAt fs 44) p true) (cornerContainsOf (quadrantAt fs 66) p true) ∙ rw (← e)
-holds-all fs p false e = and-true (cornerContainsOf (quadrantAt fs 0) p false) ∙ rw (← e)
+all-hold fs p e = all-four (cornerContainsOf (quadrantAt fs 0) p true) (cornerContainsOf (quadrantAt fs 22) p true) (cornerContainsOf (quadrantAt fs 44) p true) (cornerContainsOf (quadrantAt fs 66) p true) ∙ rw (e)
 
-four-or-one : (differ : Bool) (n : ℕ) → n ≡ cond differ 4 1 → n ≤ 4
-four-or-one true n e = omega arith
-four-or-one false n e = omega arith
+pub first-holds : (fs : List Float) (p : Point) → eq (getD fs 88 nan) binary32.zero ≡ false → cornerContainsOf (quadrantAt fs 0) p false ≡ containsOf (shapeAt fs) p
+unfolding containsOf shapeAt ne
+first-holds fs p e = rw (e)
 
-pub count-small : (fs : List Float) (n : ℕ) → n ≡ cond (eq (getD fs 88 nan) binary32.zero) 4 1 → n ≤ 4
-count-small fs n e = four-or-one (eq (getD fs 88 nan) binary32.zero) n e
+-- a corner c that is known not to be square
+pub round-asked : (q c : Quadrant) (n : Point) (s r : Bool) → c ≡ q → s ≡ squareCorner c → s ≡ false → r ≡ roundContains c n → r ≡ normContains q n
+unfolding normContains
+round-asked q c n s r eq es ef er = rw (← eq, ← es, ef) er
 
 -- the number that is answered
-module _ (fs : List Float) (p : Point) (n : ℕ) (r : Bool) (en : n ≡ cond (eq (getD fs 88 nan) binary32.zero) 4 1) (er : r ≡ cornersHold fs p (eq (getD fs 88 nan) binary32.zero) n 0) where
-  contains-is : r ≡ containsOf (shapeAt fs) p
-  contains-is = er ∙ ap (λ (m : ℕ). cornersHold fs p (eq (getD fs 88 nan) binary32.zero) m 0) en ∙ holds-all fs p (eq (getD fs 88 nan) binary32.zero) refl
-
-  pub holds : length fs ≡ 89 → r ≡ true → 1 ≡ holdsOf fs p
-  unfolding holdsOf
-  holds e t = rw (e, ← contains-is, t)
-
-  pub holds-not : length fs ≡ 89 → r ≡ false → 0 ≡ holdsOf fs p
-  unfolding holdsOf
-  holds-not e t = rw (e, ← contains-is, t)
+pub answered : (fs : List Float) (p : Point) (b r : Bool) (n : ℕ) → length fs ≡ 89 → n ≡ cond r 1 0 → r ≡ b → b ≡ containsOf (shapeAt fs) p → n ≡ holdsOf fs p
+unfolding holdsOf
+answered fs p b r n el en er eb = rw (el, ← eb, ← er) en

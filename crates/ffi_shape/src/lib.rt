@@ -1,12 +1,13 @@
 // Shapes for programs in C and Rust: a shape is made once, into floats that the caller lends, and asked
 // as often as is liked.
 ghost use mathlib.Core.Path.{_≡_};
-ghost use mathlib.Core.Bool.{cond};
+ghost use mathlib.Core.Bool.{true, false, cond};
 ghost use Prim.Native.Nat.{_+_, _≤_};
 ghost use lib.ListN.{length};
-ghost use Rattle.geometry.specs.Point.{one};
+ghost use Rattle.geometry.specs.Point.{one, subOf, divOf};
 ghost use Rattle.octant.specs.Binary32.{zero};
 ghost use Rattle.octant.specs.Octant.{point};
+ghost use Rattle.containment.specs.Contains.{normContains, cornerContainsOf};
 ghost use Rattle.stream.specs.Stream.{put};
 ghost use Rattle.ffi_shape.specs.Layout.{pointFloats, octantFloats, quadrantFloats, shapeFloats, pointAt, octantAt, quadrantAt, shapeAt, boundsAt, radiiAt};
 ghost use Rattle.ffi_shape.specs.Making.{left, makeOf, cornersHold, holdsOf};
@@ -172,31 +173,76 @@ pub extern "C" fn shackletongue_shape(sizes: &[f32], shape: &mut [f32]) -> u32
     }
 }
 
-// How many corners describe a shape: all, or one where they are the same.
-fn corner_count(differ: bool) -> usize
-    ensures { λ r. ⌜ r ≡ cond differ 4 1 ⌝ }
+// A point in the space of the corner at `at`.
+fn norm_point(shape: &[f32], at: usize, p: Point) -> Point
+    requires { ⌜ at + 22 ≤ length (now shape) ⌝ }
+    ensures { λ r. ⌜ r ≡ divOf (subOf p (pointAt (now (shape .entry)) at)) (pointAt (now (shape .entry)) (at + 2)) ⌝ }
 {
-    if differ {
-        return 4;
-    }
-    1
+    geometry::div(
+        geometry::sub(p, point_at(shape, at)),
+        point_at(shape, at + 2),
+    )
 }
 
-// Whether the first corners of a shape hold the point. They are read one by one from the floats, and
-// asked at one place, so that none is copied.
-fn corners_hold(shape: &[f32], p: Point, check_quadrant: bool, corners: usize) -> bool
-    requires { ⌜ (length (now shape) ≡ 89) × (corners ≤ 4) ⌝ }
-    ensures { λ r. ⌜ r ≡ cornersHold (now (shape .entry)) p «check_quadrant» corners 0 ⌝ }
+// Whether the corner at `at` holds a point in its own space. Called from several places, it is compiled apart from
+// them, and reads the floats that it needs.
+fn norm_holds(shape: &[f32], at: usize, x: f32, y: f32) -> bool
+    requires { ⌜ at + 22 ≤ length (now shape) ⌝ }
+    ensures { λ r. ⌜ r ≡ normContains (quadrantAt (now (shape .entry)) at) (point x y) ⌝ }
+{
+    containment::norm_contains(quadrant_at(shape, at), Point { x, y })
+}
+
+// Whether the corner at `at` holds the point, or is not asked: it is not in its quadrant.
+fn corner_holds(shape: &[f32], at: usize, p: Point) -> bool
+    requires { ⌜ at + 22 ≤ length (now shape) ⌝ }
+    ensures { λ r. ⌜ r ≡ cornerContainsOf (quadrantAt (now (shape .entry)) at) p true ⌝ }
+{
+    let n = norm_point(shape, at, p);
+    if n.x < 0.0 {
+        return true;
+    }
+    if n.y < 0.0 {
+        return true;
+    }
+    norm_holds(shape, at, n.x, n.y)
+}
+
+fn corners_hold(shape: &[f32], p: Point) -> bool
+    requires { ⌜ length (now shape) ≡ 89 ⌝ }
+    ensures { λ r. ⌜ r ≡ cornersHold (now (shape .entry)) p true 4 0 ⌝ }
 {
     let mut k = 0;
-    while k < corners {
-        if containment::corner_contains(quadrant_at(shape, 22 * k), p, check_quadrant) {
+    while k < 4 {
+        if corner_holds(shape, 22 * k, p) {
             k += 1;
         } else {
             return false;
         }
     }
     true
+}
+
+// Whether the one corner that describes all four holds the point. Round corners, nearly all, are asked in place.
+fn same_holds(shape: &[f32], p: Point) -> bool
+    requires { ⌜ length (now shape) ≡ 89 ⌝ }
+    ensures { λ r. ⌜ r ≡ cornerContainsOf (quadrantAt (now (shape .entry)) 0) p false ⌝ }
+{
+    let corner = quadrant_at(shape, 0);
+    let n = geometry::abs(norm_point(shape, 0, p));
+    if containment::is_square(corner) {
+        return norm_holds(shape, 0, n.x, n.y);
+    }
+    containment::arcs_contain(corner, n)
+}
+
+fn number(b: bool) -> u32
+    ensures { λ r. ⌜ r ≡ cond b 1 0 ⌝ }
+{
+    if b {
+        return 1;
+    }
+    0
 }
 
 // 1 where the shape contains the point, 0 where not.
@@ -207,9 +253,8 @@ pub extern "C" fn shackletongue_contains(shape: &[f32], x: f32, y: f32) -> u32
     if shape.len() != SHAPE_LENGTH {
         return WRONG_LENGTH;
     }
-    let differ = shape[88] == 0.0;
-    if corners_hold(shape, Point { x, y }, differ, corner_count(differ)) {
-        return 1;
+    if shape[88] == 0.0 {
+        return number(corners_hold(shape, Point { x, y }));
     }
-    0
+    number(same_holds(shape, Point { x, y }))
 }
