@@ -1,6 +1,5 @@
 use mathlib.Core.Path.{refl}
 use mathlib.Core.List.{[], _∷_, _++_}
-use native.Mathlib.Omega.{arith}
 use Rattle.stream.specs.declared.Element.the-variants.{Cubic}
 use Rattle.stream.specs.Stream.{State, state}
 use Rattle.calls.specs.Calls.{entriesOf}
@@ -27,7 +26,7 @@ push-conic-requires c κs =
     let r1 = c .before .before .before .before .before .before .push-cubic in
     let t1 : State = state (r1 .result) (r1 .last .1 .0) (r1 .last .1 .1 .0) in
     let h = c .before .before .before .before .before .before .before .before .before .before .before .pre in
-    let h1 = room-rest s t1 (cubicCall (a .o .circle) ∷ []) (conicCall (a .o .second) ∷ [] ++ (conicCall (a .o .first) ∷ [])) (calls-plain s (cubicCall (a .o .circle)) (Cubic (a .o .circle .c0) (a .o .circle .c1) (a .o .circle .to)) refl t1 (r1 .ensures)) (omega (arith, r1 .kept)) (omega (arith, r1 .kept)) h in
+    let h1 = room-rest s t1 (cubicCall (a .o .circle) ∷ []) (conicCall (a .o .second) ∷ [] ++ (conicCall (a .o .first) ∷ [])) (calls-plain s (cubicCall (a .o .circle)) (Cubic (a .o .circle .c0) (a .o .circle .c1) (a .o .circle .to)) refl t1 (r1 .ensures)) (r1 .kept .1 .0) (r1 .kept .1 .1 .0) h in
     room-first t1 (conicCall (a .o .second) ∷ []) (conicCall (a .o .first) ∷ []) h1
 
 push-conic-requires-2 : tie.Need-push-conic-requires-2
@@ -40,8 +39,8 @@ push-conic-requires-2 c κs =
     let r2 = c .before .before .before .before .before .before .push-conic in
     let t2 : State = state (r2 .result) (r2 .last .1 .0) (r2 .last .1 .1 .0) in
     let h = c .before .before .before .before .before .before .before .before .before .before .before .before .before .before .before .before .before .before .pre in
-    let h1 = room-rest s t1 (cubicCall (a .o .circle) ∷ []) (conicCall (a .o .second) ∷ [] ++ (conicCall (a .o .first) ∷ [])) (calls-plain s (cubicCall (a .o .circle)) (Cubic (a .o .circle .c0) (a .o .circle .c1) (a .o .circle .to)) refl t1 (r1 .ensures)) (omega (arith, r1 .kept)) (omega (arith, r1 .kept)) h in
-    let h2 = room-rest t1 t2 (conicCall (a .o .second) ∷ []) (conicCall (a .o .first) ∷ []) (r2 .ensures) (omega (arith, r2 .kept)) (omega (arith, r2 .kept)) h1 in
+    let h1 = room-rest s t1 (cubicCall (a .o .circle) ∷ []) (conicCall (a .o .second) ∷ [] ++ (conicCall (a .o .first) ∷ [])) (calls-plain s (cubicCall (a .o .circle)) (Cubic (a .o .circle .c0) (a .o .circle .c1) (a .o .circle .to)) refl t1 (r1 .ensures)) (r1 .kept .1 .0) (r1 .kept .1 .1 .0) h in
+    let h2 = room-rest t1 t2 (conicCall (a .o .second) ∷ []) (conicCall (a .o .first) ∷ []) (r2 .ensures) (r2 .kept .1 .0) (r2 .kept .1 .1 .0) h1 in
     h2
 
 same-length : tie.Need-same-length

@@ -1,6 +1,5 @@
 use mathlib.Core.Path.{refl, sym, ap, subst, _∙_}
 use mathlib.Core.List.{[], _∷_, _++_}
-use native.Mathlib.Omega.{arith}
 use Rattle.stream.specs.declared.Element.the-variants.{Line}
 use Rattle.stream.specs.Stream.{State, state}
 use Rattle.calls.specs.declared.Call.the-variants.{LineTo}
@@ -39,7 +38,7 @@ push-line-requires-2 c κs =
     let r1 = c .before .before .before .before .before .before .push-line in
     let t1 : State = state (r1 .result) (r1 .last .1 .0) (r1 .last .1 .1 .0) in
     let h = subst (λ (x : Corner). RoomAlong s (callsOf x)) (g .1) (c .before .before .before .before .before .before .before .before .before .before .before .before .before .before .pre) in
-    let h1 = room-rest s t1 (LineTo p ∷ []) (LineTo q ∷ []) (calls-plain s (LineTo p) (Line p) refl t1 (r1 .ensures)) (omega (arith, r1 .kept)) (omega (arith, r1 .kept)) h in
+    let h1 = room-rest s t1 (LineTo p ∷ []) (LineTo q ∷ []) (calls-plain s (LineTo p) (Line p) refl t1 (r1 .ensures)) (r1 .kept .1 .0) (r1 .kept .1 .1 .0) h in
     room-plain t1 (LineTo q) (Line q) refl (h1)
 
 enum-known-corner-2 : tie.Need-enum-known-corner-2
@@ -65,7 +64,7 @@ push-backwards-requires c κs =
     let r1 = c .before .before .before .before .before .before .push-forwards in
     let t1 : State = state (r1 .result) (r1 .last .1 .0) (r1 .last .1 .1 .0) in
     let h = subst (λ (x : Corner). RoomAlong s (callsOf x)) (g .1) (c .before .before .before .before .before .before .before .before .before .before .before .before .before .before .pre) in
-    let h1 = room-rest s t1 (callsForwards (v .forwards)) (callsBackwards (v .backwards)) (r1 .ensures) (omega (arith, r1 .kept)) (omega (arith, r1 .kept)) h in
+    let h1 = room-rest s t1 (callsForwards (v .forwards)) (callsBackwards (v .backwards)) (r1 .ensures) (r1 .kept .1 .0) (r1 .kept .1 .1 .0) h in
     h1
 
 same-length : tie.Need-same-length

@@ -1,6 +1,5 @@
 use mathlib.Core.Path.{sym, ap, _∙_}
 use mathlib.Core.List.{[], _++_, append-nil, flatten}
-use native.Mathlib.Omega.{arith}
 use Rattle.stream.specs.Stream.{State, state}
 use Rattle.corners.specs.Calls.{callsOf}
 use Rattle.contour.specs.Entries.{pushCalls}
@@ -24,7 +23,7 @@ push-corner-requires-2 c κs =
     let r1 = c .before .before .before .before .before .before .push-corner in
     let t1 : State = state (r1 .result) (r1 .last .1 .0) (r1 .last .1 .1 .0) in
     let h = c .before .before .before .before .before .before .before .before .before .before .before .pre in
-    let h1 = room-rest s t1 (callsOf (a .corners .first)) (callsOf (a .corners .second) ++ (callsOf (a .corners .third) ++ (callsOf (a .corners .fourth) ++ []))) (r1 .ensures) (omega (arith, r1 .kept)) (omega (arith, r1 .kept)) h in
+    let h1 = room-rest s t1 (callsOf (a .corners .first)) (callsOf (a .corners .second) ++ (callsOf (a .corners .third) ++ (callsOf (a .corners .fourth) ++ []))) (r1 .ensures) (r1 .kept .1 .0) (r1 .kept .1 .1 .0) h in
     room-first t1 (callsOf (a .corners .second)) (callsOf (a .corners .third) ++ (callsOf (a .corners .fourth) ++ [])) h1
 
 push-corner-requires-3 : tie.Need-push-corner-requires-3
@@ -37,8 +36,8 @@ push-corner-requires-3 c κs =
     let r2 = c .before .before .before .before .before .before .push-corner2 in
     let t2 : State = state (r2 .result) (r2 .last .1 .0) (r2 .last .1 .1 .0) in
     let h = c .before .before .before .before .before .before .before .before .before .before .before .before .before .before .before .before .before .before .pre in
-    let h1 = room-rest s t1 (callsOf (a .corners .first)) (callsOf (a .corners .second) ++ (callsOf (a .corners .third) ++ (callsOf (a .corners .fourth) ++ []))) (r1 .ensures) (omega (arith, r1 .kept)) (omega (arith, r1 .kept)) h in
-    let h2 = room-rest t1 t2 (callsOf (a .corners .second)) (callsOf (a .corners .third) ++ (callsOf (a .corners .fourth) ++ [])) (r2 .ensures) (omega (arith, r2 .kept)) (omega (arith, r2 .kept)) h1 in
+    let h1 = room-rest s t1 (callsOf (a .corners .first)) (callsOf (a .corners .second) ++ (callsOf (a .corners .third) ++ (callsOf (a .corners .fourth) ++ []))) (r1 .ensures) (r1 .kept .1 .0) (r1 .kept .1 .1 .0) h in
+    let h2 = room-rest t1 t2 (callsOf (a .corners .second)) (callsOf (a .corners .third) ++ (callsOf (a .corners .fourth) ++ [])) (r2 .ensures) (r2 .kept .1 .0) (r2 .kept .1 .1 .0) h1 in
     room-first t2 (callsOf (a .corners .third)) (callsOf (a .corners .fourth) ++ []) h2
 
 push-corner-requires-4 : tie.Need-push-corner-requires-4
@@ -53,16 +52,16 @@ push-corner-requires-4 c κs =
     let r3 = c .before .before .before .before .before .before .push-corner3 in
     let t3 : State = state (r3 .result) (r3 .last .1 .0) (r3 .last .1 .1 .0) in
     let h = c .before .before .before .before .before .before .before .before .before .before .before .before .before .before .before .before .before .before .before .before .before .before .before .before .before .pre in
-    let h1 = room-rest s t1 (callsOf (a .corners .first)) (callsOf (a .corners .second) ++ (callsOf (a .corners .third) ++ (callsOf (a .corners .fourth) ++ []))) (r1 .ensures) (omega (arith, r1 .kept)) (omega (arith, r1 .kept)) h in
-    let h2 = room-rest t1 t2 (callsOf (a .corners .second)) (callsOf (a .corners .third) ++ (callsOf (a .corners .fourth) ++ [])) (r2 .ensures) (omega (arith, r2 .kept)) (omega (arith, r2 .kept)) h1 in
-    let h3 = room-rest t2 t3 (callsOf (a .corners .third)) (callsOf (a .corners .fourth) ++ []) (r3 .ensures) (omega (arith, r3 .kept)) (omega (arith, r3 .kept)) h2 in
+    let h1 = room-rest s t1 (callsOf (a .corners .first)) (callsOf (a .corners .second) ++ (callsOf (a .corners .third) ++ (callsOf (a .corners .fourth) ++ []))) (r1 .ensures) (r1 .kept .1 .0) (r1 .kept .1 .1 .0) h in
+    let h2 = room-rest t1 t2 (callsOf (a .corners .second)) (callsOf (a .corners .third) ++ (callsOf (a .corners .fourth) ++ [])) (r2 .ensures) (r2 .kept .1 .0) (r2 .kept .1 .1 .0) h1 in
+    let h3 = room-rest t2 t3 (callsOf (a .corners .third)) (callsOf (a .corners .fourth) ++ []) (r3 .ensures) (r3 .kept .1 .0) (r3 .kept .1 .1 .0) h2 in
     room-first t3 (callsOf (a .corners .fourth)) [] h3
 
 same-length : tie.Need-same-length
-same-length c = omega (arith, c .before .before .before .before .before .before .before .before .before .before .before .before .before .before .before .before .before .before .before .before .before .before .before .before .before .push-corner .kept, c .before .before .before .before .before .before .before .before .before .before .before .before .before .before .before .before .before .before .push-corner2 .kept, c .before .before .before .before .before .before .before .before .before .before .before .push-corner3 .kept, c .before .before .before .before .push-corner4 .kept)
+same-length c = c .before .before .before .before .push-corner4 .kept .1 .0 ∙ c .before .before .before .before .before .before .before .before .before .before .before .push-corner3 .kept .1 .0 ∙ c .before .before .before .before .before .before .before .before .before .before .before .before .before .before .before .before .before .before .push-corner2 .kept .1 .0 ∙ c .before .before .before .before .before .before .before .before .before .before .before .before .before .before .before .before .before .before .before .before .before .before .before .before .before .push-corner .kept .1 .0
 
 same-length-2 : tie.Need-same-length-2
-same-length-2 c = omega (arith, c .before .before .before .before .before .before .before .before .before .before .before .before .before .before .before .before .before .before .before .before .before .before .before .before .before .push-corner .kept, c .before .before .before .before .before .before .before .before .before .before .before .before .before .before .before .before .before .before .push-corner2 .kept, c .before .before .before .before .before .before .before .before .before .before .before .push-corner3 .kept, c .before .before .before .before .push-corner4 .kept)
+same-length-2 c = c .before .before .before .before .push-corner4 .kept .1 .1 .0 ∙ c .before .before .before .before .before .before .before .before .before .before .before .push-corner3 .kept .1 .1 .0 ∙ c .before .before .before .before .before .before .before .before .before .before .before .before .before .before .before .before .before .before .push-corner2 .kept .1 .1 .0 ∙ c .before .before .before .before .before .before .before .before .before .before .before .before .before .before .before .before .before .before .before .before .before .before .before .before .before .push-corner .kept .1 .1 .0
 
 returns : tie.Need-returns
 unfolding flatten

@@ -1,4 +1,4 @@
-use mathlib.Core.Path.{refl}
+use mathlib.Core.Path.{refl, _∙_}
 use mathlib.Core.List.{[], _∷_, _++_, flatten}
 use native.Mathlib.Omega.{arith}
 use Rattle.stream.specs.declared.Element.the-variants as Element
@@ -27,7 +27,7 @@ push-corners-requires c κs =
     let r1 = c .before .before .before .before .before .before .push-move in
     let t1 : State = state (r1 .result) (r1 .last .1 .0) (r1 .last .1 .1 .0) in
     let h = c .before .before .before .before .before .before .before .before .before .before .before .before .before .pre in
-    let h1 = room-rest s t1 (MoveTo (a .o .start) ∷ []) (flatten (callLists (a .o .corners)) ++ (LineTo (a .o .start) ∷ [] ++ (Close ∷ []))) (calls-plain s (MoveTo (a .o .start)) (Element.Move (a .o .start)) refl t1 (r1 .ensures)) (omega (arith, r1 .kept)) (omega (arith, r1 .kept)) h in
+    let h1 = room-rest s t1 (MoveTo (a .o .start) ∷ []) (flatten (callLists (a .o .corners)) ++ (LineTo (a .o .start) ∷ [] ++ (Close ∷ []))) (calls-plain s (MoveTo (a .o .start)) (Element.Move (a .o .start)) refl t1 (r1 .ensures)) (r1 .kept .1 .0) (r1 .kept .1 .1 .0) h in
     room-first t1 (flatten (callLists (a .o .corners))) (LineTo (a .o .start) ∷ [] ++ (Close ∷ [])) h1
 
 push-line-requires : tie.Need-push-line-requires
@@ -40,8 +40,8 @@ push-line-requires c κs =
     let r2 = c .before .before .before .before .before .before .push-corners in
     let t2 : State = state (r2 .result) (r2 .last .1 .0) (r2 .last .1 .1 .0) in
     let h = c .before .before .before .before .before .before .before .before .before .before .before .before .before .before .before .before .before .before .before .before .pre in
-    let h1 = room-rest s t1 (MoveTo (a .o .start) ∷ []) (flatten (callLists (a .o .corners)) ++ (LineTo (a .o .start) ∷ [] ++ (Close ∷ []))) (calls-plain s (MoveTo (a .o .start)) (Element.Move (a .o .start)) refl t1 (r1 .ensures)) (omega (arith, r1 .kept)) (omega (arith, r1 .kept)) h in
-    let h2 = room-rest t1 t2 (flatten (callLists (a .o .corners))) (LineTo (a .o .start) ∷ [] ++ (Close ∷ [])) (r2 .ensures) (omega (arith, r2 .kept)) (omega (arith, r2 .kept)) h1 in
+    let h1 = room-rest s t1 (MoveTo (a .o .start) ∷ []) (flatten (callLists (a .o .corners)) ++ (LineTo (a .o .start) ∷ [] ++ (Close ∷ []))) (calls-plain s (MoveTo (a .o .start)) (Element.Move (a .o .start)) refl t1 (r1 .ensures)) (r1 .kept .1 .0) (r1 .kept .1 .1 .0) h in
+    let h2 = room-rest t1 t2 (flatten (callLists (a .o .corners))) (LineTo (a .o .start) ∷ [] ++ (Close ∷ [])) (r2 .ensures) (r2 .kept .1 .0) (r2 .kept .1 .1 .0) h1 in
     room-plain t2 (LineTo (a .o .start)) (Element.Line (a .o .start)) refl (room-first t2 (LineTo (a .o .start) ∷ []) (Close ∷ []) h2)
 
 push-close-requires : tie.Need-push-close-requires
@@ -56,17 +56,17 @@ push-close-requires c κs =
     let r3 = c .before .before .before .before .before .before .push-line in
     let t3 : State = state (r3 .result) (r3 .last .1 .0) (r3 .last .1 .1 .0) in
     let h = c .before .before .before .before .before .before .before .before .before .before .before .before .before .before .before .before .before .before .before .before .before .before .before .before .before .before .before .pre in
-    let h1 = room-rest s t1 (MoveTo (a .o .start) ∷ []) (flatten (callLists (a .o .corners)) ++ (LineTo (a .o .start) ∷ [] ++ (Close ∷ []))) (calls-plain s (MoveTo (a .o .start)) (Element.Move (a .o .start)) refl t1 (r1 .ensures)) (omega (arith, r1 .kept)) (omega (arith, r1 .kept)) h in
-    let h2 = room-rest t1 t2 (flatten (callLists (a .o .corners))) (LineTo (a .o .start) ∷ [] ++ (Close ∷ [])) (r2 .ensures) (omega (arith, r2 .kept)) (omega (arith, r2 .kept)) h1 in
-    let h3 = room-rest t2 t3 (LineTo (a .o .start) ∷ []) (Close ∷ []) (calls-plain t2 (LineTo (a .o .start)) (Element.Line (a .o .start)) refl t3 (r3 .ensures)) (omega (arith, r3 .kept)) (omega (arith, r3 .kept)) h2 in
+    let h1 = room-rest s t1 (MoveTo (a .o .start) ∷ []) (flatten (callLists (a .o .corners)) ++ (LineTo (a .o .start) ∷ [] ++ (Close ∷ []))) (calls-plain s (MoveTo (a .o .start)) (Element.Move (a .o .start)) refl t1 (r1 .ensures)) (r1 .kept .1 .0) (r1 .kept .1 .1 .0) h in
+    let h2 = room-rest t1 t2 (flatten (callLists (a .o .corners))) (LineTo (a .o .start) ∷ [] ++ (Close ∷ [])) (r2 .ensures) (r2 .kept .1 .0) (r2 .kept .1 .1 .0) h1 in
+    let h3 = room-rest t2 t3 (LineTo (a .o .start) ∷ []) (Close ∷ []) (calls-plain t2 (LineTo (a .o .start)) (Element.Line (a .o .start)) refl t3 (r3 .ensures)) (r3 .kept .1 .0) (r3 .kept .1 .1 .0) h2 in
     let g = room-plain t3 (Close) (Element.Close) refl (h3) in
     (g .0, omega (arith, g .1))
 
 same-length : tie.Need-same-length
-same-length c = omega (arith, c .before .before .before .before .before .before .before .before .before .before .before .before .before .before .before .before .before .before .before .before .before .before .before .before .before .push-move .kept, c .before .before .before .before .before .before .before .before .before .before .before .before .before .before .before .before .before .before .push-corners .kept, c .before .before .before .before .before .before .before .before .before .before .before .push-line .kept, c .before .before .before .before .push-close .kept)
+same-length c = c .before .before .before .before .push-close .kept .1 .0 ∙ c .before .before .before .before .before .before .before .before .before .before .before .push-line .kept .1 .0 ∙ c .before .before .before .before .before .before .before .before .before .before .before .before .before .before .before .before .before .before .push-corners .kept .1 .0 ∙ c .before .before .before .before .before .before .before .before .before .before .before .before .before .before .before .before .before .before .before .before .before .before .before .before .before .push-move .kept .1 .0
 
 same-length-2 : tie.Need-same-length-2
-same-length-2 c = omega (arith, c .before .before .before .before .before .before .before .before .before .before .before .before .before .before .before .before .before .before .before .before .before .before .before .before .before .push-move .kept, c .before .before .before .before .before .before .before .before .before .before .before .before .before .before .before .before .before .before .push-corners .kept, c .before .before .before .before .before .before .before .before .before .before .before .push-line .kept, c .before .before .before .before .push-close .kept)
+same-length-2 c = c .before .before .before .before .push-close .kept .1 .1 .0 ∙ c .before .before .before .before .before .before .before .before .before .before .before .push-line .kept .1 .1 .0 ∙ c .before .before .before .before .before .before .before .before .before .before .before .before .before .before .before .before .before .before .push-corners .kept .1 .1 .0 ∙ c .before .before .before .before .before .before .before .before .before .before .before .before .before .before .before .before .before .before .before .before .before .before .before .before .before .push-move .kept .1 .1 .0
 
 returns : tie.Need-returns
 unfolding callsIn entriesOf
