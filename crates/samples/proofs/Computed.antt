@@ -4,7 +4,7 @@ use lib.Ieee as Ieee
 use Rattle.ieee.specs.Basic.{absOf}
 use Rattle.ieee.specs.Sqrt.{sqrtOf, rootOf, isqrt, root}
 use Rattle.geometry.specs.Point.{addOf, subOf, scaleOf, shrinkOf, lengthOf, lengthSquaredOf, finitePoint}
-use Rattle.conic.specs.Conic.{isLine, lowerOf, conicMid, quadMid, flatOf, splitOf}
+use Rattle.conic.specs.Conic.{isLine, lowerOf, conicMid, quadMid, flatOf, halfWeightOf, splitOf}
 use Rattle.conic.specs.Halving.{halve, wordOf}
 use Rattle.stream.specs.Stream.{sizesOf, badRecord, hasRoom}
 use Rattle.lowering.specs.Entries.{elementsOf, piecesIn, loweredOf}
@@ -18,7 +18,7 @@ use Rattle.samples.proofs.Square.{square-outline}
 
 -- opens every definition that a conic is computed by
 unfoldable computing : Unit {0}
-unfolding entriesOf loweredOf elementsOf piecesIn sizesOf lowerOf isLine halve wordOf conicMid quadMid flatOf splitOf addOf subOf scaleOf shrinkOf lengthOf lengthSquaredOf finitePoint absOf sqrtOf rootOf isqrt root step attempt badRecord hasRoom Ieee.ofBits Ieee.ofFields Ieee.lt Ieee.le Ieee.sub Ieee.add Ieee.neg Ieee.sum Ieee.round Ieee.size Ieee.units Ieee.odd Ieee.mul Ieee.div Ieee.span Ieee.climb
+unfolding entriesOf loweredOf elementsOf piecesIn sizesOf lowerOf isLine halve wordOf conicMid quadMid flatOf halfWeightOf splitOf addOf subOf scaleOf shrinkOf lengthOf lengthSquaredOf finitePoint absOf sqrtOf rootOf isqrt root step attempt badRecord hasRoom Ieee.ofBits Ieee.ofFields Ieee.lt Ieee.le Ieee.sub Ieee.add Ieee.neg Ieee.sum Ieee.round Ieee.size Ieee.units Ieee.odd Ieee.mul Ieee.div Ieee.span Ieee.climb
 computing = tt
 
 pub samples : Samples
