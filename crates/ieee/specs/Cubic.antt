@@ -2,4 +2,4 @@
 use Prim.Native.Nat.{ℕ, _^_, _≤_, _<_}
 
 abbrev pub Sized : ℕ → ℕ → ℕ → ℕ → Type 0
-Sized a b c d = (a < 2 ^ 56) × (2 ^ 26 ≤ b) × (b < 2 ^ 32) × (2 ^ 26 ≤ c) × (c < 2 ^ 32) × (d < 2 ^ 33)
+Sized a b c d = (2 ^ 43 ≤ a) × (a < 2 ^ 56) × (b < 2 ^ 32) × (2 ^ 26 ≤ c) × (c < 2 ^ 32) × (d < 2 ^ 33)

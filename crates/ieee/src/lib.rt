@@ -126,6 +126,15 @@ fn along(c: u64, t: u64) -> u64
     (c * t) >> 25
 }
 
+// c * t^2 / 2^25, for the cubics. The square does not wait for c.
+fn bent(c: u64, t: u64) -> u64
+    requires { ⌜ (c < 2 ^ 32) × (t < 2 ^ 18) ⌝ }
+    ensures { λ r. ⌜ r < 2 ^ 43 ⌝ }
+{
+    let square = (t * t) >> 12;
+    (c * square) >> 13
+}
+
 // A guess at the root of d * 2^24, or of d * 2^23 where `odd` is 1. No proof rests on its being near:
 // `round_root` tests it, and mends it by steps of 1.
 fn root_guess(d: u64, odd: u64) -> u64
@@ -136,8 +145,7 @@ fn root_guess(d: u64, odd: u64) -> u64
     let t = d % 0x4_0000;
     let c = cubic::cubic_at(i);
     let bend = c.2 - along(c.3, t);
-    let slope = c.1 - along(bend, t);
-    (c.0 + slope * t) >> 32
+    (c.0 + c.1 * t - bent(bend, t)) >> 32
 }
 
 // The first whole number from r on that is no longer too low for the root of w.
