@@ -67,14 +67,14 @@ nearOf d c =
     let chord = sqrtOf binary32 c in
     cond (lt zero chord) (le (sqrtOf binary32 d) (mul binary32 thousandth chord)) false
 
--- the weight is near 1
-abbrev pub nearOne : Conic → Bool
-nearOne c = le (absOf (sub binary32 (c .weight) one)) thousandth
+-- a weight near 1
+abbrev pub nearOneOf : Float → Bool
+nearOneOf w = le (absOf (sub binary32 w one)) thousandth
 
 -- flat enough for one quad: the weight is near 1, or the two middles are near each other, measured by a chord above 0
 unfoldable pub flatOf : Conic → Bool
 flatOf c =
-    cond (nearOne c) true
+    cond (nearOneOf (c .weight)) true
     (let chord = lengthOf (subOf (c .to) (c .from)) in
     cond (lt zero chord) (le (lengthOf (subOf (conicMid c) (quadMid c))) (mul binary32 thousandth chord)) false)
 
@@ -88,15 +88,17 @@ less = ofBits binary32 0x3586_37ab
 abbrev pub more : Float
 more = ofBits binary32 0x3586_37cf
 
--- the same without roots, where they are not needed
-unfoldable pub flatnessOf : Conic → Flatness
-flatnessOf c =
-    cond (nearOne c) Flat
-    (let chord = chordOf c in
+-- the same without roots, where they are not needed: of a weight that is not near 1, and of any
+unfoldable pub closenessOf : Conic → Flatness
+closenessOf c =
+    let chord = chordOf c in
     let distance = distanceOf c in
     cond (lt tiny chord)
     (cond (le distance (mul binary32 less chord)) (cond (le zero distance) Flat Unsure) (cond (lt (mul binary32 more chord) distance) Curved Unsure))
-    Unsure)
+    Unsure
+
+unfoldable pub flatnessOf : Conic → Flatness
+flatnessOf c = cond (nearOneOf (c .weight)) Flat (closenessOf c)
 
 -- the weight of both halves of a conic with this weight
 unfoldable pub halfWeightOf : Float → Float

@@ -3,10 +3,7 @@
 ghost use mathlib.Core.Path.{_≡_};
 ghost use Prim.Native.Nat.{ℕ, _≤_};
 ghost use lib.ListN.{length};
-ghost use lib.Ieee.{binary32, sub, le};
-ghost use Rattle.ieee.specs.Basic.{absOf};
-ghost use Rattle.geometry.specs.Point.{one};
-ghost use Rattle.conic.specs.Conic.{conicAt, thousandth, isLine, lowerOf, conicMid, quadMid, distanceOf, chordOf, nearOf, flatOf, flatnessOf, halfWeightOf, splitOf, halvesOf};
+ghost use Rattle.conic.specs.Conic.{conicAt, isLine, lowerOf, conicMid, quadMid, distanceOf, chordOf, nearOneOf, nearOf, flatOf, closenessOf, flatnessOf, halfWeightOf, splitOf, halvesOf};
 ghost use Rattle.conic.specs.Halving.{halve, countOf};
 use geometry::Point;
 
@@ -86,9 +83,9 @@ fn quad_mid(c: Conic) -> Point
     geometry::scale(sum, 0.25)
 }
 
-// By two comparisons: the absolute value would keep a NaN apart.
-fn is_near_one(w: f32) -> bool
-    ensures { λ r. ⌜ r ≡ le (absOf (sub binary32 w one)) thousandth ⌝ }
+// Whether a weight is near 1. By two comparisons: the absolute value would keep a NaN apart.
+pub fn is_near_one(w: f32) -> bool
+    ensures { λ r. ⌜ r ≡ nearOneOf w ⌝ }
 {
     let over = w - 1.0;
     if over <= 0.001 {
@@ -97,17 +94,14 @@ fn is_near_one(w: f32) -> bool
     false
 }
 
-// Whether the quad with the same control and target is near enough to the conic, by the squared lengths. Roots and
-// product are each off by a part in 2^23 at most, so they can decide only where the one is within two parts in a million
-// of a millionth of the other; near 0 that bound fails.
+// Whether the quad with the same control and target is near enough to a conic whose weight is not near 1, by the
+// squared lengths. Roots and product are each off by a part in 2^23 at most, so they can decide only where the one is
+// within two parts in a million of a millionth of the other; near 0 that bound fails.
 // What is called at each halving takes a conic's floats one by one: a record would go through memory
 // at each call.
-pub fn flatness_by_squares(x0: f32, y0: f32, x1: f32, y1: f32, x2: f32, y2: f32, w: f32) -> Flatness
-    ensures { λ r. ⌜ r ≡ flatnessOf (conicAt x0 y0 x1 y1 x2 y2 w) ⌝ }
+pub fn closeness(x0: f32, y0: f32, x1: f32, y1: f32, x2: f32, y2: f32, w: f32) -> Flatness
+    ensures { λ r. ⌜ r ≡ closenessOf (conicAt x0 y0 x1 y1 x2 y2 w) ⌝ }
 {
-    if is_near_one(w) {
-        return Flatness::Flat;
-    }
     let c = Conic {
         from: Point { x: x0, y: y0 },
         ctrl: Point { x: x1, y: y1 },
@@ -129,6 +123,16 @@ pub fn flatness_by_squares(x0: f32, y0: f32, x1: f32, y1: f32, x2: f32, y2: f32,
         return Flatness::Unsure;
     }
     Flatness::Unsure
+}
+
+// The same of any conic.
+pub fn flatness_by_squares(x0: f32, y0: f32, x1: f32, y1: f32, x2: f32, y2: f32, w: f32) -> Flatness
+    ensures { λ r. ⌜ r ≡ flatnessOf (conicAt x0 y0 x1 y1 x2 y2 w) ⌝ }
+{
+    if is_near_one(w) {
+        return Flatness::Flat;
+    }
+    closeness(x0, y0, x1, y1, x2, y2, w)
 }
 
 // Whether the middles of the conic and of the quad are near each other, measured by a chord above 0.
