@@ -1,7 +1,7 @@
 -- Laws of the weights that are remembered while a conic is written.
 use mathlib.Core.Path.{_≡_, refl, sym, ap, subst, _∙_}
 use mathlib.Core.List.{List, [], _∷_}
-use mathlib.Core.Bool.{true≢false}
+use mathlib.Core.Bool.{Bool, true, false, cond, true≢false}
 use Prim.Native.Nat.{ℕ, zero, suc, _+_, _-_, _≤_, _<_}
 use native.Mathlib.Numerals.{sub-one}
 use native.Mathlib.Omega.{arith}
@@ -64,6 +64,19 @@ both-known n w u ms ns os h six r e m q p =
       known = (q .0, whole-known n w os h here (subst (λ (x : Float). Below d x os) e (q .1)));
       past = sym (next os) ∙ ap (drop 1) p ∙ next ns ∙ ap (drop n) m ∙ drop-set-lt n ms d (halfWeightOf w) (omega arith);
     }
+
+-- ---- halves that are not halved
+
+pub known-shallow : (b : Bool) (e d : ℕ) (u : Float) (ms : List Float) → e ≡ cond b 0 d → Remembers d u ms → Remembers e u ms
+unfolding Below
+known-shallow true e d u ms z r = (r .0, subst (λ (k : ℕ). Below k u ms) (sym z) tt)
+known-shallow false e d u ms z r = (r .0, subst (λ (k : ℕ). Below k u ms) (sym z) (r .1))
+
+pub known-after : (b : Bool) (e d : ℕ) (u : Float) (ms ns : List Float) → e ≡ cond b 0 d → Remembers d u ms → Remembers e u ns → drop e ns ≡ drop e ms → BothKnown d u ms ns
+known-after true e d u ms ns z r q p =
+    let same : ns ≡ ms = subst (λ (k : ℕ). drop k ns ≡ drop k ms) z p in
+    record { known = subst (Remembers d u) (sym same) r; past = ap (drop d) same }
+known-after false e d u ms ns z r q p = record { known = subst (λ (k : ℕ). Remembers k u ns) z q; past = subst (λ (k : ℕ). drop k ns ≡ drop k ms) z p }
 
 -- ---- nothing is known yet
 

@@ -1,7 +1,7 @@
 -- What the code that writes a conic has where it writes one quad, and where it writes both halves.
 use mathlib.Core.Path.{_≡_, refl, sym, ap, ap₂, _∙_}
 use mathlib.Core.List.{List, [], _∷_, _++_}
-use mathlib.Core.Bool.{true, false}
+use mathlib.Core.Bool.{Bool, true, false, cond}
 use Prim.Native.Nat.{ℕ, zero, suc, _+_, _-_, _*_, _%_, _^_, _≤_, _<_}
 use native.Mathlib.Nat.{one-mul}
 use native.Mathlib.Omega.{arith}
@@ -12,9 +12,10 @@ use lib.Dec.{lit<}
 use lib.Ieee.{Float}
 use Rattle.geometry.specs.declared.Point.{Point}
 use Rattle.conic.specs.declared.Conic.{Conic}
-use Rattle.conic.specs.Conic.{Halves, flatOf, splitOf}
+use Rattle.conic.specs.Conic.{nearOneOf, Halves, flatOf, splitOf}
+use Rattle.conic.proofs.Flat.{flat-one}
 use Rattle.conic.specs.Halving.{Piece, pieceOf, halve, piecesOf, countOf, wordOf}
-use Rattle.conic.proofs.Halving.{halve-split, word-append}
+use Rattle.conic.proofs.Halving.{halve-none, halve-flat, halve-split, word-append}
 use Rattle.conic.proofs.Whole.{halve-ends}
 use Rattle.stream.specs.declared.Builder.{Builder}
 use Rattle.stream.specs.declared.Element.{Element}
@@ -124,6 +125,35 @@ both-wrote ps l r {fs} {us} {gs} {at} {mid} h b x y =
       end = omega (arith, x .end, y .end);
       bits = omega (arith, x .bits, y .bits);
     }
+
+-- ---- a half that is flat by its weight may as well not be halved
+
+pub record SameQuads (ps qs : List Piece) : Type 0 where
+  pub many : length ps ≡ length qs
+  pub quads : quadsOf ps ≡ quadsOf qs
+  pub word : wordOf ps ≡ wordOf qs
+
+pub same-quads : (b : Bool) (e d : ℕ) (c : Conic) (start : ℕ) → nearOneOf (c .weight) ≡ b → e ≡ cond b 0 d → SameQuads (halve e c start) (halve d c start)
+same-quads true e d c start w z =
+    let x = one-quad (halve e c start) c start _ (halve-none e c start z) in
+    let y = one-quad (halve d c start) c start _ (halve-flat d c start (flat-one c w)) in
+    record { many = x .many ∙ sym (y .many); quads = x .quads ∙ sym (y .quads); word = x .word ∙ sym (y .word) }
+same-quads false e d c start w z =
+    record { many = ap (λ (k : ℕ). length (halve k c start)) z; quads = ap (λ (k : ℕ). quadsOf (halve k c start)) z; word = ap (λ (k : ℕ). wordOf (halve k c start)) z }
+
+pub same-wrote : (ps qs : List Piece) {fs gs : List Float} {at next word after : ℕ} → SameQuads ps qs → Wrote ps fs gs at next word after → Wrote qs fs gs at next word after
+same-wrote ps qs {fs} {gs} {at} s w =
+    let m = s .many in
+    let b = s .word in
+    record { points = w .points ∙ ap (λ (ks : List Element). put fs (2 * at) (allFloats ks)) (s .quads); end = omega (arith, w .end); bits = omega (arith, w .bits) }
+
+pub not-deeper : (b : Bool) (e d : ℕ) → e ≡ cond b 0 d → e ≤ d
+not-deeper true e d z = omega arith
+not-deeper false e d z = omega arith
+
+pub deep-not-near : (b : Bool) (e d : ℕ) → e ≡ cond b 0 d → 0 < e → b ≡ false
+deep-not-near true e d z h = absurd (omega arith)
+deep-not-near false e d z h = refl
 
 -- ---- a whole conic
 

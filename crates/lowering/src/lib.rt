@@ -6,7 +6,7 @@ ghost use mathlib.Core.List.{_∷_, []};
 ghost use Prim.Native.Nat.{_+_, _*_, _^_, _<_, _≤_};
 ghost use lib.ListN.{length, drop, getD, set, replicate};
 ghost use lib.Ieee.{nan};
-ghost use Rattle.conic.specs.Conic.{conicAt, flatOf, flatnessOf, halfWeightOf};
+ghost use Rattle.conic.specs.Conic.{conicAt, distanceOf, chordOf, nearOneOf, nearOf, flatOf, flatnessOf, halfWeightOf};
 ghost use Rattle.conic.specs.Halving.{halve, wordOf, piecesOf, countOf};
 ghost use Rattle.stream.specs.Stream.{put, allFloats, state, push, pushAll, Fits};
 ghost use Rattle.lowering.specs.Entries.{elementsOf, quadsOf, loweredOf, jointWord, builderAt};
@@ -93,6 +93,16 @@ fn weight_of_halves(memo: &mut [f32; 6], d: usize, w: f32) -> f32
     known
 }
 
+// How often halves that may be halved d times are: not at all where their weight is near 1, since they are flat then.
+fn depth_of_halves(d: usize, u: f32) -> usize
+    ensures { λ r. ⌜ r ≡ cond (nearOneOf u) 0 d ⌝ }
+{
+    if conic::is_near_one(u) {
+        return 0;
+    }
+    d
+}
+
 // The quads of a conic, their points from point `at` on, and the bits where they start. Each split calls it for
 // both halves, with the depth still allowed falling from 6. Splits and doubtful cases have functions of their
 // own, so that the commonest case, one quad, saves no registers.
@@ -111,7 +121,7 @@ fn push_conic(
     depth: usize,
     start: usize,
 )
-    requires { ⌜ (depth ≤ 6) × (start + 2 ^ depth ≤ 64) × HasRoom (halve depth (conicAt x0 y0 x1 y1 x2 y2 w) start) (now points) (now at) (now word) × Remembers depth w (now memo) ⌝ }
+    requires { ⌜ (depth ≤ 6) × (start + 2 ^ depth ≤ 64) × HasRoom (halve depth (conicAt x0 y0 x1 y1 x2 y2 w) start) (now points) (now at) (now word) × Remembers depth w (now memo) × (0 < depth → nearOneOf w ≡ false) ⌝ }
     ensures { λ _. ⌜ now (points .exit) ≡ put (now (points .entry)) (2 * now (at .entry)) (allFloats (quadsOf (halve depth (conicAt x0 y0 x1 y1 x2 y2 w) start))) ⌝ }
     ensures { λ _. ⌜ (now (at .exit) ≡ now (at .entry) + 2 * length (halve depth (conicAt x0 y0 x1 y1 x2 y2 w) start)) × (now (word .exit) ≡ now (word .entry) + wordOf (halve depth (conicAt x0 y0 x1 y1 x2 y2 w) start)) ⌝ }
     ensures { λ _. ⌜ Remembers depth w (now (memo .exit)) × (drop depth (now (memo .exit)) ≡ drop depth (now (memo .entry))) ⌝ }
@@ -120,7 +130,7 @@ fn push_conic(
         put_quad(points, at, word, x1, y1, x2, y2, start);
         return;
     }
-    let f = conic::flatness_by_squares(x0, y0, x1, y1, x2, y2, w);
+    let f = conic::closeness(x0, y0, x1, y1, x2, y2, w);
     match f {
         Flatness::Flat => put_quad(points, at, word, x1, y1, x2, y2, start),
         Flatness::Curved => push_halves(
@@ -172,7 +182,7 @@ fn push_unsure(
     depth: usize,
     start: usize,
 )
-    requires { ⌜ (0 < depth) × (flatnessOf (conicAt x0 y0 x1 y1 x2 y2 w) ≡ Flatness.Unsure) × (depth ≤ 6) × (start + 2 ^ depth ≤ 64) × HasRoom (halve depth (conicAt x0 y0 x1 y1 x2 y2 w) start) (now points) (now at) (now word) × Remembers depth w (now memo) ⌝ }
+    requires { ⌜ (0 < depth) × (flatOf (conicAt x0 y0 x1 y1 x2 y2 w) ≡ nearOf (distanceOf (conicAt x0 y0 x1 y1 x2 y2 w)) (chordOf (conicAt x0 y0 x1 y1 x2 y2 w))) × (depth ≤ 6) × (start + 2 ^ depth ≤ 64) × HasRoom (halve depth (conicAt x0 y0 x1 y1 x2 y2 w) start) (now points) (now at) (now word) × Remembers depth w (now memo) ⌝ }
     ensures { λ _. ⌜ now (points .exit) ≡ put (now (points .entry)) (2 * now (at .entry)) (allFloats (quadsOf (halve depth (conicAt x0 y0 x1 y1 x2 y2 w) start))) ⌝ }
     ensures { λ _. ⌜ (now (at .exit) ≡ now (at .entry) + 2 * length (halve depth (conicAt x0 y0 x1 y1 x2 y2 w) start)) × (now (word .exit) ≡ now (word .entry) + wordOf (halve depth (conicAt x0 y0 x1 y1 x2 y2 w) start)) ⌝ }
     ensures { λ _. ⌜ Remembers depth w (now (memo .exit)) × (drop depth (now (memo .exit)) ≡ drop depth (now (memo .entry))) ⌝ }
@@ -225,6 +235,7 @@ fn push_halves(
     let m = h.mid;
     let b = h.right_ctrl;
     let u = weight_of_halves(memo, d, w);
+    let e = depth_of_halves(d, u);
     push_conic(
         points,
         memo,
@@ -237,7 +248,7 @@ fn push_halves(
         m.x,
         m.y,
         u,
-        d,
+        e,
         start,
     );
     let next = start + (1 << d);
@@ -253,7 +264,7 @@ fn push_halves(
         x2,
         y2,
         u,
-        d,
+        e,
         next,
     );
 }

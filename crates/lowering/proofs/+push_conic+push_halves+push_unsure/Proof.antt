@@ -3,22 +3,22 @@
 use mathlib.Core.Path.{_≡_, refl, sym, ap, subst, _∙_}
 use mathlib.Core.List.{List}
 use mathlib.Core.Bool.{false}
-use Prim.Native.Nat.{ℕ, _+_, _-_, _*_, _%_, _^_, _<_}
+use Prim.Native.Nat.{ℕ, _+_, _-_, _*_, _%_, _^_, _<_, _≤_}
 use native.Mathlib.Omega.{arith}
 use lib.ListN.{length}
-use lib.Pow.{pow-pos}
+use lib.Pow.{pow-pos, pow-mono}
 use borrow.Author.Needs.{needs}
 use borrow.Fn.Kinds.{In}
 use borrow.Fn.PlainCycle.{Measures, is, falls, and}
 use Rattle.conic.specs.declared.Conic.{Conic}
 use Rattle.conic.specs.declared.Flatness.the-variants.{Flat, Curved, Unsure}
-use Rattle.conic.specs.Conic.{conicAt, halvesOf, halfWeightOf}
+use Rattle.conic.specs.Conic.{conicAt, nearOneOf, halvesOf}
 use Rattle.conic.specs.Halving.{Piece, halve, wordOf}
-use Rattle.conic.proofs.Flat.{flatness-tells}
+use Rattle.conic.proofs.Flat.{closeness-tells}
 use Rattle.conic.proofs.Halving.{halve-none, halve-flat, half-span}
 use Rattle.lowering.specs.Entries.{quadsOf}
-use Rattle.lowering.proofs.Writing.{OneQuad, one-quad, bit, BothHalves, both-halves, Wrote, one-wrote, both-wrote}
-use Rattle.lowering.proofs.Memo.{first-known, first-half, both-known}
+use Rattle.lowering.proofs.Writing.{OneQuad, one-quad, bit, BothHalves, both-halves, Wrote, one-wrote, both-wrote, same-quads, same-wrote, not-deeper, deep-not-near}
+use Rattle.lowering.proofs.Memo.{first-known, first-half, both-known, known-shallow, known-after}
 use Rattle.lowering.proofs.push_conic.Reads as push-conic
 use Rattle.lowering.proofs.push_conic.Kinds as conic-kinds
 use Rattle.lowering.proofs.+push_conic+push_halves+push_unsure.Lts-push_conic as conic-lts
@@ -28,11 +28,12 @@ use Rattle.lowering.proofs.+push_conic+push_halves+push_unsure.Lts-push
 use Rattle.lowering.proofs.push_unsure.Reads as push-unsure
 use Rattle.lowering.proofs.push_unsure.Kinds as unsure-kinds
 use Rattle.lowering.proofs.+push_conic+push_halves+push_unsure.Lts-push_unsure as unsure-lts
-use Rattle.conic.proofs.flatness_by_squares.Reads as flatness-reads
+use Rattle.conic.proofs.closeness.Reads as closeness-reads
 use Rattle.conic.proofs.is_near.Reads as is-near-reads
 use Rattle.conic.proofs.subdivide.Reads as subdivide-reads
 use Rattle.lowering.proofs.put_quad.Reads as put-quad-reads
 use Rattle.lowering.proofs.weight_of_halves.Reads as weight-reads
+use Rattle.lowering.proofs.depth_of_halves.Reads as depth-reads
 use Rattle.lowering.proofs.+push_conic+push_halves+push_unsure.{statement}
 use Rattle.lowering.proofs.+push_conic+push_halves+push_unsure.Tie.{close}
 
@@ -66,10 +67,10 @@ module _ (t : ℕ) where
   unsure-below = and 4 unsure-kinds.ps (falls 4 unsure-kinds.ps _<_ μ-unsure t) push-unsure.Pre
 
   abbrev conic-claims : conic-lts.Claims
-  conic-claims = (put-quad-reads.Asked, put-quad-reads.Learnt, flatness-reads.Asked, flatness-reads.Learnt, halves-below, push-halves.Post, unsure-below, push-unsure.Post)
+  conic-claims = (put-quad-reads.Asked, put-quad-reads.Learnt, closeness-reads.Asked, closeness-reads.Learnt, halves-below, push-halves.Post, unsure-below, push-unsure.Post)
 
   abbrev halves-claims : halves-lts.Claims
-  halves-claims = (subdivide-reads.Asked, subdivide-reads.Learnt, weight-reads.Asked, weight-reads.Learnt, conic-below, push-conic.Post)
+  halves-claims = (subdivide-reads.Asked, subdivide-reads.Learnt, weight-reads.Asked, weight-reads.Learnt, depth-reads.Asked, depth-reads.Learnt, conic-below, push-conic.Post)
 
   abbrev unsure-claims : unsure-lts.Claims
   unsure-claims = (is-near-reads.Asked, is-near-reads.Learnt, put-quad-reads.Asked, put-quad-reads.Learnt, halves-below, push-halves.Post)
@@ -80,7 +81,7 @@ module _ (t : ℕ) where
       let k = conicAt (a .x0) (a .y0) (a .x1) (a .y1) (a .x2) (a .y2) (a .w) in
       let h = one-quad _ k (a .start) _ (halve-none (a .depth) k (a .start) (c .before .before .before .if1 .taken)) in
       let s = c .before .before .before .before .before .pre .1 in
-      (omega (arith, s, pow-pos (a .depth)), omega (arith, h .many, s), omega (arith, h .word, s))
+      (omega (arith, s .1, pow-pos (a .depth)), omega (arith, h .many, s .2 .0), omega (arith, h .word, s .2 .1))
 
   conic-same-length : conic-lts.Need-same-length conic-claims conic-at push-conic.Post
   conic-same-length c = search needs
@@ -94,8 +95,8 @@ module _ (t : ℕ) where
       let r = one-wrote _ k (a .start) h (e .0) (e .1 .0) (e .1 .1) in
       (r .points, ((r .end, r .bits), (c .before .before .before .before .before .before .before .before .pre .1 .3, refl)))
 
-  conic-flatness-by-squares-requires : conic-lts.Need-flatness-by-squares-requires conic-claims conic-at push-conic.Post
-  conic-flatness-by-squares-requires c κs = search needs
+  conic-closeness-requires : conic-lts.Need-closeness-requires conic-claims conic-at push-conic.Post
+  conic-closeness-requires c κs = search needs
 
   conic-enum-told : conic-lts.Need-enum-told conic-claims conic-at push-conic.Post
   conic-enum-told c = search needs
@@ -104,9 +105,9 @@ module _ (t : ℕ) where
   conic-put-quad-requires-2 c κs =
       let a = c .before .before .before .before .before .before .before .before .args in
       let k = conicAt (a .x0) (a .y0) (a .x1) (a .y1) (a .x2) (a .y2) (a .w) in
-      let h = one-quad _ k (a .start) _ (halve-flat (a .depth) k (a .start) (flatness-tells k Flat (sym (c .before .before .before .before .before .flatness-by-squares .ensures) ∙ c .before .before .before .enum-told .given .1))) in
+      let h = one-quad _ k (a .start) _ (halve-flat (a .depth) k (a .start) (closeness-tells k Flat (c .before .before .before .before .before .before .before .before .pre .1 .4 (omega (arith, c .before .before .before .before .before .before .if1 .left))) (sym (c .before .before .before .before .before .closeness .ensures) ∙ c .before .before .before .enum-told .given .1))) in
       let s = c .before .before .before .before .before .before .before .before .pre .1 in
-      (omega (arith, s, pow-pos (a .depth)), omega (arith, h .many, s), omega (arith, h .word, s))
+      (omega (arith, s .1, pow-pos (a .depth)), omega (arith, h .many, s .2 .0), omega (arith, h .word, s .2 .1))
 
   conic-enum-told-2 : conic-lts.Need-enum-told-2 conic-claims conic-at push-conic.Post
   conic-enum-told-2 c = search needs
@@ -115,18 +116,20 @@ module _ (t : ℕ) where
   conic-push-halves-requires c κs =
       let a = c .before .before .before .before .before .before .before .before .before .args in
       let s = c .before .before .before .before .before .before .before .before .before .pre in
-      let z = c .before .before .before .before .before .before .before .if1 .left in
-      let flat = flatness-tells (conicAt (a .x0) (a .y0) (a .x1) (a .y1) (a .x2) (a .y2) (a .w)) Curved (sym (c .before .before .before .before .before .before .flatness-by-squares .ensures) ∙ c .before .before .before .before .enum-told2 .given .1) in
-      (omega (arith, s .0), (omega (arith, z), flat, s .1 .0, s .1 .1, s .1 .2, s .1 .3))
+      let deep : 0 < a .depth = omega (arith, c .before .before .before .before .before .before .before .if1 .left) in
+      let flat = closeness-tells (conicAt (a .x0) (a .y0) (a .x1) (a .y1) (a .x2) (a .y2) (a .w)) Curved (s .1 .4 deep) (sym (c .before .before .before .before .before .before .closeness .ensures) ∙ c .before .before .before .before .enum-told2 .given .1) in
+      (omega (arith, s .0), (deep, flat, s .1 .0, s .1 .1, s .1 .2, s .1 .3))
 
   conic-enum-told-3 : conic-lts.Need-enum-told-3 conic-claims conic-at push-conic.Post
   conic-enum-told-3 c = search needs
 
   conic-push-unsure-requires : conic-lts.Need-push-unsure-requires conic-claims conic-at push-conic.Post
   conic-push-unsure-requires c κs =
+      let a = c .before .before .before .before .before .before .before .before .before .args in
       let s = c .before .before .before .before .before .before .before .before .before .pre in
-      let z = c .before .before .before .before .before .before .before .if1 .left in
-      (omega (arith, s .0), (omega (arith, z), sym (c .before .before .before .before .before .before .flatness-by-squares .ensures) ∙ c .before .before .before .before .enum-told3 .given .1, s .1 .0, s .1 .1, s .1 .2, s .1 .3))
+      let deep : 0 < a .depth = omega (arith, c .before .before .before .before .before .before .before .if1 .left) in
+      let unsure = closeness-tells (conicAt (a .x0) (a .y0) (a .x1) (a .y1) (a .x2) (a .y2) (a .w)) Unsure (s .1 .4 deep) (sym (c .before .before .before .before .before .before .closeness .ensures) ∙ c .before .before .before .before .enum-told3 .given .1) in
+      (omega (arith, s .0), (deep, unsure, s .1 .0, s .1 .1, s .1 .2, s .1 .3))
 
   conic-same-length-2 : conic-lts.Need-same-length-2 conic-claims conic-at push-conic.Post
   conic-same-length-2 c = search needs
@@ -135,7 +138,7 @@ module _ (t : ℕ) where
   conic-returns-2 c =
       let a = c .before .before .before .before .before .before .before .before .before .before .before .args in
       let k = conicAt (a .x0) (a .y0) (a .x1) (a .y1) (a .x2) (a .y2) (a .w) in
-      let h = one-quad _ k (a .start) _ (halve-flat (a .depth) k (a .start) (flatness-tells k Flat (sym (c .before .before .before .before .before .before .before .before .flatness-by-squares .ensures) ∙ c .before .before .before .before .before .before .enum-told .given .1))) in
+      let h = one-quad _ k (a .start) _ (halve-flat (a .depth) k (a .start) (closeness-tells k Flat (c .before .before .before .before .before .before .before .before .before .before .before .pre .1 .4 (omega (arith, c .before .before .before .before .before .before .before .before .before .if1 .left))) (sym (c .before .before .before .before .before .before .before .before .closeness .ensures) ∙ c .before .before .before .before .before .before .enum-told .given .1))) in
       let e = c .before .before .put-quad2 .ensures in
       let r = one-wrote _ k (a .start) h (e .0) (e .1 .0) (e .1 .1) in
       (r .points, ((r .end, r .bits), (c .before .before .before .before .before .before .before .before .before .before .before .pre .1 .3, refl)))
@@ -181,65 +184,95 @@ module _ (t : ℕ) where
       let s = c .before .before .before .before .before .before .pre .1 in
       (omega (arith, s), first-known (a .depth) (a .w) (a .memo .now) (s .0) (s .5 .1))
 
+  halves-depth-of-halves-requires : halves-lts.Need-depth-of-halves-requires halves-claims halves-at push-halves.Post
+  halves-depth-of-halves-requires c κs = search needs
+
   halves-push-conic-requires : halves-lts.Need-push-conic-requires halves-claims halves-at push-halves.Post
   halves-push-conic-requires c κs =
-      let a = c .before .before .before .before .before .before .before .before .before .before .before .args in
-      let s = c .before .before .before .before .before .before .before .before .before .before .before .pre in
-      let w = c .before .before .before .before in
+      let a = c .before .before .before .before .before .before .before .before .before .before .before .before .args in
+      let s = c .before .before .before .before .before .before .before .before .before .before .before .before .pre in
+      let v = c .before .before .before .before in
+      let w = v .before in
       let b = both w in
+      let d = a .depth - 1 in
+      let u = w .weight-of-halves in
+      let e = v .depth-of-halves .result in
+      let z = v .depth-of-halves .ensures in
+      let near = nearOneOf (u .result) in
+      let h = halvesOf (conicAt (a .x0) (a .y0) (a .x1) (a .y1) (a .x2) (a .y2) (a .w)) (c .before .before .before .before .before .before .before .before .before .before .subdivide .result) (u .result) in
+      let shallow = not-deeper near e d z in
       let span = half-span (a .depth) (λ e. omega (arith, s .1 .0, e)) in
-      let u = w .weight-of-halves .ensures in
-      (omega (arith, s .0, s .1 .0), (omega (arith, s .1 .2), omega (arith, s .1 .3, span), (omega (arith, s .1 .4 .0, b .many), omega (arith, s .1 .4 .1, b .word)), first-half (a .depth) (a .w) _ (a .memo .now) _ (s .1 .0) (s .1 .5) (u .0) (u .1)))
+      let power : 2 ^ e ≤ 2 ^ d = pow-mono shallow in
+      let same = same-quads near e d (h .left) (a .start) refl z in
+      let known = first-half (a .depth) (a .w) _ (a .memo .now) _ (s .1 .0) (s .1 .5) (u .ensures .0) (u .ensures .1) in
+      (omega (arith, s .0, s .1 .0), (omega (arith, s .1 .2), omega (arith, s .1 .3, span), (omega (arith, s .1 .4 .0, b .many, same .many), omega (arith, s .1 .4 .1, b .word, same .word)), known-shallow near e d _ _ z known, deep-not-near near e d z))
 
   halves-shl-next : halves-lts.Need-shl-next halves-claims halves-at push-halves.Post
-  halves-shl-next c = omega (arith, c .before .before .before .before .before .before .before .before .before .before .before .before .before .before .pre .1 .2)
+  halves-shl-next c = omega (arith, c .before .before .before .before .before .before .before .before .before .before .before .before .before .before .before .pre .1 .2)
 
   halves-add-next : halves-lts.Need-add-next halves-claims halves-at push-halves.Post
   halves-add-next c =
-      let s = c .before .before .before .before .before .before .before .before .before .before .before .before .before .before .pre .1 in
-      let a = c .before .before .before .before .before .before .before .before .before .before .before .before .before .before .args in
-      let e = half (c .before .before .before .before .before .before .before) in
+      let s = c .before .before .before .before .before .before .before .before .before .before .before .before .before .before .before .pre .1 in
+      let a = c .before .before .before .before .before .before .before .before .before .before .before .before .before .before .before .args in
+      let e = half (c .before .before .before .before .before .before .before .before) in
       let span = half-span (a .depth) (λ e. omega (arith, s .0, e)) in
       omega (arith, s .3, span, e)
 
   halves-push-conic-requires-2 : halves-lts.Need-push-conic-requires-2 halves-claims halves-at push-halves.Post
   halves-push-conic-requires-2 c κs =
-      let a = c .before .before .before .before .before .before .before .before .before .before .before .before .before .before .before .before .before .before .args in
-      let s = c .before .before .before .before .before .before .before .before .before .before .before .before .before .before .before .before .before .before .pre in
-      let w = c .before .before .before .before .before .before .before .before .before .before .before in
+      let a = c .before .before .before .before .before .before .before .before .before .before .before .before .before .before .before .before .before .before .before .args in
+      let s = c .before .before .before .before .before .before .before .before .before .before .before .before .before .before .before .before .before .before .before .pre in
+      let v = c .before .before .before .before .before .before .before .before .before .before .before in
+      let w = v .before in
       let b = both w in
-      let e = half w in
-      let first = c .before .before .before .before .before .before .push-conic in
       let d = a .depth - 1 in
-      let h = halvesOf (conicAt (a .x0) (a .y0) (a .x1) (a .y1) (a .x2) (a .y2) (a .w)) (c .before .before .before .before .before .before .before .before .before .before .before .before .before .before .before .before .subdivide .result) (w .weight-of-halves .result) in
-      let r : ℕ → List Piece = λ k. halve d (h .right) (a .start + k) in
-      let n = ap (λ (k : ℕ). length (r k)) e in
-      let m = ap (λ (k : ℕ). wordOf (r k)) e in
-      let span = half-span (a .depth) (λ z. omega (arith, s .1 .0, z)) in
-      (omega (arith, s .0, s .1 .0), (omega (arith, s .1 .2), omega (arith, s .1 .3, span, e), (omega (arith, s .1 .4 .0, b .many, n, first .ensures .1 .0 .0, first .kept), omega (arith, s .1 .4 .1, b .word, m, first .ensures .1 .0 .1)), first .ensures .1 .1 .0))
+      let u = w .weight-of-halves in
+      let e = v .depth-of-halves .result in
+      let z = v .depth-of-halves .ensures in
+      let near = nearOneOf (u .result) in
+      let h = halvesOf (conicAt (a .x0) (a .y0) (a .x1) (a .y1) (a .x2) (a .y2) (a .w)) (c .before .before .before .before .before .before .before .before .before .before .before .before .before .before .before .before .before .subdivide .result) (u .result) in
+      let first = c .before .before .before .before .before .before .push-conic in
+      let shallow = not-deeper near e d z in
+      let power : 2 ^ e ≤ 2 ^ d = pow-mono shallow in
+      let span = half-span (a .depth) (λ i. omega (arith, s .1 .0, i)) in
+      let r : ℕ → List Piece = λ i. halve d (h .right) (a .start + i) in
+      let n = ap (λ (i : ℕ). length (r i)) (half w) in
+      let m = ap (λ (i : ℕ). wordOf (r i)) (half w) in
+      let left = same-quads near e d (h .left) (a .start) refl z in
+      let right = same-quads near e d (h .right) (a .start + (1 * 2 ^ d) % 2 ^ 64) refl z in
+      (omega (arith, s .0, s .1 .0), (omega (arith, s .1 .2), omega (arith, s .1 .3, span, half w), (omega (arith, s .1 .4 .0, b .many, n, left .many, right .many, first .ensures .1 .0 .0, first .kept), omega (arith, s .1 .4 .1, b .word, m, left .word, right .word, first .ensures .1 .0 .1)), first .ensures .1 .1 .0, deep-not-near near e d z))
 
   halves-same-length : halves-lts.Need-same-length halves-claims halves-at push-halves.Post
   halves-same-length c = search needs
 
   halves-returns : halves-lts.Need-returns halves-claims halves-at push-halves.Post
   halves-returns c =
-      let a = c .before .before .before .before .before .before .before .before .before .before .before .before .before .before .before .before .before .before .before .before .before .args in
-      let s = c .before .before .before .before .before .before .before .before .before .before .before .before .before .before .before .before .before .before .before .before .before .pre .1 in
-      let w = c .before .before .before .before .before .before .before .before .before .before .before .before .before .before in
+      let a = c .before .before .before .before .before .before .before .before .before .before .before .before .before .before .before .before .before .before .before .before .before .before .args in
+      let s = c .before .before .before .before .before .before .before .before .before .before .before .before .before .before .before .before .before .before .before .before .before .before .pre in
+      let v = c .before .before .before .before .before .before .before .before .before .before .before .before .before .before in
+      let w = v .before in
+      let b = both w in
+      let d = a .depth - 1 in
+      let u = w .weight-of-halves in
+      let e = v .depth-of-halves .result in
+      let z = v .depth-of-halves .ensures in
+      let near = nearOneOf (u .result) in
+      let h = halvesOf (conicAt (a .x0) (a .y0) (a .x1) (a .y1) (a .x2) (a .y2) (a .w)) (c .before .before .before .before .before .before .before .before .before .before .before .before .before .before .before .before .before .before .before .before .subdivide .result) (u .result) in
+      let k = conicAt (a .x0) (a .y0) (a .x1) (a .y1) (a .x2) (a .y2) (a .w) in
       let first = c .before .before .before .before .before .before .before .before .before .push-conic in
       let second = c .before .before .push-conic2 in
-      let d = a .depth - 1 in
-      let k = conicAt (a .x0) (a .y0) (a .x1) (a .y1) (a .x2) (a .y2) (a .w) in
-      let h = halvesOf k (c .before .before .before .before .before .before .before .before .before .before .before .before .before .before .before .before .before .before .before .subdivide .result) (w .weight-of-halves .result) in
       let l = halve d (h .left) (a .start) in
       let r : ℕ → List Piece = λ i. halve d (h .right) (a .start + i) in
-      let x : Wrote l (a .points .now) (first .last .0) (a .at .now) (first .last .1 .1 .0) (a .word .now) (first .last .1 .1 .1 .0) = record { points = first .ensures .0; end = first .ensures .1 .0 .0; bits = first .ensures .1 .0 .1 } in
+      let x : Wrote l (a .points .now) (first .last .0) (a .at .now) (first .last .1 .1 .0) (a .word .now) (first .last .1 .1 .1 .0) = same-wrote (halve e (h .left) (a .start)) l (same-quads near e d (h .left) (a .start) refl z) record { points = first .ensures .0; end = first .ensures .1 .0 .0; bits = first .ensures .1 .0 .1 } in
       let after : ℕ → Type 0 = λ i. Wrote (r i) (first .last .0) (second .last .0) (first .last .1 .1 .0) (second .last .1 .1 .0) (first .last .1 .1 .1 .0) (second .last .1 .1 .1 .0) in
-      let y : after (2 ^ d) = subst after (half w) record { points = second .ensures .0; end = second .ensures .1 .0 .0; bits = second .ensures .1 .0 .1 } in
-      let z = both-wrote (halve (a .depth) k (a .start)) l (r (2 ^ d)) (omega (arith, s .4 .0)) (both w) x y in
-      let u = w .weight-of-halves .ensures in
-      let m = both-known (a .depth) (a .w) _ (a .memo .now) _ _ (s .0) (s .2) (s .5) (u .0) (u .1) (second .ensures .1 .1 .0) (second .ensures .1 .1 .1 ∙ first .ensures .1 .1 .1) in
-      (z .points, ((z .end, z .bits), (m .known, m .past)))
+      let next = (1 * 2 ^ d) % 2 ^ 64 in
+      let y : after (2 ^ d) = subst after (half w) (same-wrote (halve e (h .right) (a .start + next)) (r next) (same-quads near e d (h .right) (a .start + next) refl z) record { points = second .ensures .0; end = second .ensures .1 .0 .0; bits = second .ensures .1 .0 .1 }) in
+      let both-halves-wrote = both-wrote (halve (a .depth) k (a .start)) l (r (2 ^ d)) (omega (arith, s .1 .4 .0)) b x y in
+      let known = first-half (a .depth) (a .w) _ (a .memo .now) _ (s .1 .0) (s .1 .5) (u .ensures .0) (u .ensures .1) in
+      let m1 = known-after near e d _ _ _ z known (first .ensures .1 .1 .0) (first .ensures .1 .1 .1) in
+      let m2 = known-after near e d _ _ _ z (m1 .known) (second .ensures .1 .1 .0) (second .ensures .1 .1 .1) in
+      let m = both-known (a .depth) (a .w) _ (a .memo .now) _ _ (s .1 .0) (s .1 .2) (s .1 .5) (u .ensures .0) (u .ensures .1) (m2 .known) (m2 .past ∙ m1 .past) in
+      (both-halves-wrote .points, ((both-halves-wrote .end, both-halves-wrote .bits), (m .known, m .past)))
 
   unsure-is-near-requires : unsure-lts.Need-is-near-requires unsure-claims unsure-at push-unsure.Post
   unsure-is-near-requires c κs = search needs
@@ -248,7 +281,7 @@ module _ (t : ℕ) where
   unsure-put-quad-requires c κs =
       let a = c .before .before .before .before .before .before .args in
       let k = conicAt (a .x0) (a .y0) (a .x1) (a .y1) (a .x2) (a .y2) (a .w) in
-      let h = one-quad _ k (a .start) _ (halve-flat (a .depth) k (a .start) (flatness-tells k Unsure (c .before .before .before .before .before .before .pre .1 .1) ∙ sym (c .before .before .before .before .is-near .ensures) ∙ c .before .before .before .if1 .taken)) in
+      let h = one-quad _ k (a .start) _ (halve-flat (a .depth) k (a .start) (c .before .before .before .before .before .before .pre .1 .1 ∙ sym (c .before .before .before .before .is-near .ensures) ∙ c .before .before .before .if1 .taken)) in
       let s = c .before .before .before .before .before .before .pre .1 in
       (omega (arith, s .3, pow-pos (a .depth)), omega (arith, h .many, s .4 .0), omega (arith, h .word, s .4 .1))
 
@@ -259,17 +292,15 @@ module _ (t : ℕ) where
   unsure-returns c =
       let a = c .before .before .before .before .before .before .before .before .before .args in
       let k = conicAt (a .x0) (a .y0) (a .x1) (a .y1) (a .x2) (a .y2) (a .w) in
-      let h = one-quad _ k (a .start) _ (halve-flat (a .depth) k (a .start) (flatness-tells k Unsure (c .before .before .before .before .before .before .before .before .before .pre .1 .1) ∙ sym (c .before .before .before .before .before .before .before .is-near .ensures) ∙ c .before .before .before .before .before .before .if1 .taken)) in
+      let h = one-quad _ k (a .start) _ (halve-flat (a .depth) k (a .start) (c .before .before .before .before .before .before .before .before .before .pre .1 .1 ∙ sym (c .before .before .before .before .before .before .before .is-near .ensures) ∙ c .before .before .before .before .before .before .if1 .taken)) in
       let e = c .before .before .put-quad .ensures in
       let r = one-wrote _ k (a .start) h (e .0) (e .1 .0) (e .1 .1) in
       (r .points, ((r .end, r .bits), (c .before .before .before .before .before .before .before .before .before .pre .1 .5, refl)))
 
   unsure-push-halves-requires : unsure-lts.Need-push-halves-requires unsure-claims unsure-at push-unsure.Post
   unsure-push-halves-requires c κs =
-      let a = c .before .before .before .before .before .before .before .args in
       let s = c .before .before .before .before .before .before .before .pre in
-      let k = conicAt (a .x0) (a .y0) (a .x1) (a .y1) (a .x2) (a .y2) (a .w) in
-      (omega (arith, s .0), (s .1 .0, flatness-tells k Unsure (s .1 .1) ∙ sym (c .before .before .before .before .before .is-near .ensures) ∙ c .before .before .before .before .if1 .left, s .1 .2, s .1 .3, s .1 .4, s .1 .5))
+      (omega (arith, s .0), (s .1 .0, s .1 .1 ∙ sym (c .before .before .before .before .before .is-near .ensures) ∙ c .before .before .before .before .if1 .left, s .1 .2, s .1 .3, s .1 .4, s .1 .5))
 
   unsure-same-length-2 : unsure-lts.Need-same-length-2 unsure-claims unsure-at push-unsure.Post
   unsure-same-length-2 c = search needs
@@ -284,7 +315,7 @@ pub +push-conic+push-halves+push-unsure-spec : {M : Type 1} → statement M
     (conic-put-quad-requires t)
     (conic-same-length t)
     (conic-returns t)
-    (conic-flatness-by-squares-requires t)
+    (conic-closeness-requires t)
     (conic-enum-told t)
     (conic-put-quad-requires-2 t)
     (conic-enum-told-2 t)
@@ -301,6 +332,7 @@ pub +push-conic+push-halves+push-unsure-spec : {M : Type 1} → statement M
     (halves-sub-d t)
     (halves-subdivide-requires t)
     (halves-weight-of-halves-requires t)
+    (halves-depth-of-halves-requires t)
     (halves-push-conic-requires t)
     (halves-shl-next t)
     (halves-add-next t)

@@ -12,7 +12,7 @@ push-unsure-requires : tie.Need-push-unsure-requires
 push-unsure-requires c κs =
     let s = c .before .before .before .before .before .before .pre in
     let unsure = s .0 ∙ ap (λ (b : Bool). cond b Unsure Curved) (c .before .before .before .before .if1 .taken) in
-    (lit< tt, unsure, lit≤ tt, lit≤ tt, s .1, none-known _)
+    (lit< tt, flatness-tells (c .before .before .before .before .before .before .args .c) Unsure unsure, lit≤ tt, lit≤ tt, s .1, none-known _)
 
 same-length : tie.Need-same-length
 same-length c = search needs
