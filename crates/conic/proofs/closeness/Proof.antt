@@ -2,58 +2,41 @@ use Rattle.conic.specs.Conic.{closenessOf}
 use borrow.Author.Needs.{needs}
 use Rattle.conic.proofs.closeness.Statement.{statement}
 use Rattle.conic.proofs.closeness.Tie as tie
-use Rattle.conic.proofs.closeness.Reads as reads
-use Rattle.conic.proofs.closeness.Lts as lts
-use Rattle.conic.proofs.conic_mid.Reads as conic-mid-reads
-use Rattle.conic.proofs.quad_mid.Reads as quad-mid-reads
-use Rattle.geometry.proofs.length_squared.Reads as length-squared-reads
-use Rattle.geometry.proofs.sub.Reads as sub-reads
 
--- src/lib.rt:111:42
 sub-requires : tie.Need-sub-requires
 sub-requires c κs = search needs
 
--- src/lib.rt:111:9
 length-squared-requires : tie.Need-length-squared-requires
 length-squared-requires c κs = search needs
 
--- src/lib.rt:112:59
 conic-mid-requires : tie.Need-conic-mid-requires
 conic-mid-requires c κs = search needs
 
--- src/lib.rt:112:73
 quad-mid-requires : tie.Need-quad-mid-requires
 quad-mid-requires c κs = search needs
 
--- src/lib.rt:112:45
 sub-requires-2 : tie.Need-sub-requires-2
 sub-requires-2 c κs = search needs
 
--- src/lib.rt:112:9
 length-squared-requires-2 : tie.Need-length-squared-requires-2
 length-squared-requires-2 c κs = search needs
 
--- src/lib.rt:116:17
 returns : tie.Need-returns
 unfolding closenessOf
 returns c = rw (← c .before .before .before .before .before .before .before .before .sub .ensures, ← c .before .before .before .before .before .before .before .length-squared .ensures, ← c .before .before .before .before .before .before .conic-mid .ensures, ← c .before .before .before .before .before .quad-mid .ensures, ← c .before .before .before .before .sub2 .ensures, ← c .before .before .before .length-squared2 .ensures, c .before .before .if1 .taken, c .before .if2 .taken, c .if3 .taken)
 
--- src/lib.rt:118:13
 returns-2 : tie.Need-returns-2
 unfolding closenessOf
 returns-2 c = rw (← c .before .before .before .before .before .before .before .before .sub .ensures, ← c .before .before .before .before .before .before .before .length-squared .ensures, ← c .before .before .before .before .before .before .conic-mid .ensures, ← c .before .before .before .before .before .quad-mid .ensures, ← c .before .before .before .before .sub2 .ensures, ← c .before .before .before .length-squared2 .ensures, c .before .before .if1 .taken, c .before .if2 .taken, c .if3 .left)
 
--- src/lib.rt:121:13
 returns-3 : tie.Need-returns-3
 unfolding closenessOf
 returns-3 c = rw (← c .before .before .before .before .before .before .before .before .sub .ensures, ← c .before .before .before .before .before .before .before .length-squared .ensures, ← c .before .before .before .before .before .before .conic-mid .ensures, ← c .before .before .before .before .before .quad-mid .ensures, ← c .before .before .before .before .sub2 .ensures, ← c .before .before .before .length-squared2 .ensures, c .before .before .if1 .taken, c .before .if2 .left, c .if4 .taken)
 
--- src/lib.rt:123:9
 returns-4 : tie.Need-returns-4
 unfolding closenessOf
 returns-4 c = rw (← c .before .before .before .before .before .before .before .before .sub .ensures, ← c .before .before .before .before .before .before .before .length-squared .ensures, ← c .before .before .before .before .before .before .conic-mid .ensures, ← c .before .before .before .before .before .quad-mid .ensures, ← c .before .before .before .before .sub2 .ensures, ← c .before .before .before .length-squared2 .ensures, c .before .before .if1 .taken, c .before .if2 .left, c .if4 .left)
 
--- src/lib.rt:102:1
 returns-5 : tie.Need-returns-5
 unfolding closenessOf
 returns-5 c = rw (← c .before .before .before .before .before .before .sub .ensures, ← c .before .before .before .before .before .length-squared .ensures, ← c .before .before .before .before .conic-mid .ensures, ← c .before .before .before .quad-mid .ensures, ← c .before .before .sub2 .ensures, ← c .before .length-squared2 .ensures, c .if1 .left)

@@ -2,25 +2,17 @@ use Rattle.conic.specs.Conic.{flatnessOf}
 use borrow.Author.Needs.{needs}
 use Rattle.conic.proofs.flatness_by_squares.Statement.{statement}
 use Rattle.conic.proofs.flatness_by_squares.Tie as tie
-use Rattle.conic.proofs.flatness_by_squares.Reads as reads
-use Rattle.conic.proofs.flatness_by_squares.Lts as lts
-use Rattle.conic.proofs.closeness.Reads as closeness-reads
-use Rattle.conic.proofs.is_near_one.Reads as is-near-one-reads
 
--- src/lib.rt:132:8
 is-near-one-requires : tie.Need-is-near-one-requires
 is-near-one-requires c κs = search needs
 
--- src/lib.rt:133:9
 returns : tie.Need-returns
 unfolding flatnessOf
 returns c = rw (← c .before .is-near-one .ensures, c .if1 .taken)
 
--- src/lib.rt:135:5
 closeness-requires : tie.Need-closeness-requires
 closeness-requires c κs = search needs
 
--- src/lib.rt:129:1
 returns-2 : tie.Need-returns-2
 unfolding flatnessOf
 returns-2 c = rw (← c .before .before .is-near-one .ensures, c .before .if1 .left, ← c .closeness .ensures)

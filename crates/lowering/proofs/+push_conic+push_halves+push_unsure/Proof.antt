@@ -2,7 +2,6 @@
 -- halved once less. Assumes nothing.
 use mathlib.Core.Path.{_≡_, refl, sym, ap, subst, _∙_}
 use mathlib.Core.List.{List}
-use mathlib.Core.Bool.{false}
 use Prim.Native.Nat.{ℕ, _+_, _-_, _*_, _%_, _^_, _<_, _≤_}
 use native.Mathlib.Omega.{arith}
 use lib.ListN.{length}
@@ -10,14 +9,12 @@ use lib.Pow.{pow-pos, pow-mono}
 use borrow.Author.Needs.{needs}
 use borrow.Fn.Kinds.{In}
 use borrow.Fn.PlainCycle.{Measures, is, falls, and}
-use Rattle.conic.specs.declared.Conic.{Conic}
 use Rattle.conic.specs.declared.Flatness.the-variants.{Flat, Curved, Unsure}
 use Rattle.conic.specs.Conic.{conicAt, nearOneOf, halvesOf}
 use Rattle.conic.specs.Halving.{Piece, halve, wordOf}
 use Rattle.conic.proofs.Flat.{closeness-tells}
 use Rattle.conic.proofs.Halving.{halve-none, halve-flat, half-span}
-use Rattle.lowering.specs.Entries.{quadsOf}
-use Rattle.lowering.proofs.Writing.{OneQuad, one-quad, bit, BothHalves, both-halves, Wrote, one-wrote, both-wrote, same-quads, same-wrote, not-deeper, deep-not-near}
+use Rattle.lowering.proofs.Writing.{one-quad, bit, BothHalves, both-halves, Wrote, one-wrote, both-wrote, same-quads, same-wrote, not-deeper, deep-not-near}
 use Rattle.lowering.proofs.Memo.{first-known, first-half, both-known, known-shallow, known-after}
 use Rattle.lowering.proofs.push_conic.Reads as push-conic
 use Rattle.lowering.proofs.push_conic.Kinds as conic-kinds

@@ -1,6 +1,3 @@
-use mathlib.Core.Path.{sym, ap, _∙_}
-use mathlib.Core.Bool.{Bool, cond}
-use Prim.Native.Nat.{ℕ}
 use borrow.Author.Needs.{needs}
 use Rattle.lowering.proofs.depth_of_halves.Statement.{statement}
 use Rattle.lowering.proofs.depth_of_halves.Tie as tie

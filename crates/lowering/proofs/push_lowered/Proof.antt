@@ -3,7 +3,7 @@ use native.Mathlib.Omega.{arith}
 use borrow.Author.Needs.{needs}
 use Rattle.stream.specs.Stream.{State, state, pushAll}
 use Rattle.stream.proofs.Push.{push-all-one}
-use Rattle.lowering.proofs.Entries.{LoweredTo, lowered-line, lowered-curve}
+use Rattle.lowering.proofs.Entries.{lowered-line, lowered-curve}
 use Rattle.lowering.proofs.Writing.{count-is}
 use Rattle.lowering.proofs.push_lowered.Statement.{statement}
 use Rattle.lowering.proofs.push_lowered.Tie as tie

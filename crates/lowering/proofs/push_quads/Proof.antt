@@ -9,7 +9,7 @@ use Rattle.conic.proofs.Halving.{halve-flat}
 use Rattle.stream.specs.Stream.{State, state, pushAll}
 use Rattle.stream.proofs.Push.{push-all-one}
 use Rattle.lowering.specs.Entries.{builderAt}
-use Rattle.lowering.proofs.Writing.{OneQuad, one-quad, count-is}
+use Rattle.lowering.proofs.Writing.{one-quad, count-is}
 use Rattle.lowering.proofs.push_quads.Statement.{statement}
 use Rattle.lowering.proofs.push_quads.Tie as tie
 
