@@ -1,0 +1,111 @@
+// Numbers four by four, so that a processor works at several at once: none waits for another. Horner's scheme goes two times
+// four, which is as many as the registers of a processor hold.
+ghost use mathlib.Core.Path.{_≡_};
+ghost use lib.Ieee.{binary64, mul};
+ghost use Rattle.series.specs.Horner.{hornerOf};
+ghost use Rattle.lanes.specs.Lanes.{alikeOf, each, pairwise, stepOf, widened, narrowed};
+
+pub struct Four {
+    pub first: f64,
+    pub second: f64,
+    pub third: f64,
+    pub fourth: f64,
+}
+
+pub struct Eight {
+    pub low: Four,
+    pub high: Four,
+}
+
+pub struct FourFloats {
+    pub first: f32,
+    pub second: f32,
+    pub third: f32,
+    pub fourth: f32,
+}
+
+pub struct EightFloats {
+    pub low: FourFloats,
+    pub high: FourFloats,
+}
+
+pub fn widen(x: FourFloats) -> Four
+    ensures { λ r. ⌜ r ≡ widened x ⌝ }
+{
+    Four {
+        first: ieee::widen(x.first),
+        second: ieee::widen(x.second),
+        third: ieee::widen(x.third),
+        fourth: ieee::widen(x.fourth),
+    }
+}
+
+pub fn narrow(x: Four) -> FourFloats
+    ensures { λ r. ⌜ r ≡ narrowed x ⌝ }
+{
+    FourFloats {
+        first: ieee::narrow(x.first),
+        second: ieee::narrow(x.second),
+        third: ieee::narrow(x.third),
+        fourth: ieee::narrow(x.fourth),
+    }
+}
+
+pub fn multiply(x: Four, y: Four) -> Four
+    ensures { λ r. ⌜ r ≡ pairwise (mul binary64) x y ⌝ }
+{
+    Four {
+        first: x.first * y.first,
+        second: x.second * y.second,
+        third: x.third * y.third,
+        fourth: x.fourth * y.fourth,
+    }
+}
+
+// One number four times.
+fn alike(c: f64) -> Four
+    ensures { λ r. ⌜ r ≡ alikeOf c ⌝ }
+{
+    Four {
+        first: c,
+        second: c,
+        third: c,
+        fourth: c,
+    }
+}
+
+// One step of Horner's scheme: multiply by z, add c.
+fn step(h: Four, z: Four, c: f64) -> Four
+    ensures { λ r. ⌜ r ≡ pairwise (stepOf c) h z ⌝ }
+{
+    Four {
+        first: h.first * z.first + c,
+        second: h.second * z.second + c,
+        third: h.third * z.third + c,
+        fourth: h.fourth * z.fourth + c,
+    }
+}
+
+// The values at two times four places of the polynomial with the coefficients cs, from the constant term up.
+pub fn horner(cs: &[f64], y: Four, z: Four) -> Eight
+    ensures { λ r. ⌜ (r .low ≡ each (hornerOf binary64 (now (cs .entry))) y) × (r .high ≡ each (hornerOf binary64 (now (cs .entry))) z) ⌝ }
+{
+    let n = cs.len();
+    if n == 0 {
+        return Eight {
+            low: alike(0.0),
+            high: alike(0.0),
+        };
+    }
+    let mut k = n - 1;
+    let last = cs[k];
+    let mut g = alike(last);
+    let mut h = alike(last);
+    while k > 0 {
+        k -= 1;
+        let c = cs[k];
+        g = step(g, y, c);
+        h = step(h, z, c);
+    }
+    Eight { low: g, high: h }
+}
