@@ -12,7 +12,6 @@ ghost use Rattle.exponential.specs.Logarithm.{lnAt, lnOf};
 ghost use Rattle.exponential.specs.Exponential.{floorOf, within, expOf};
 ghost use Rattle.exponential.specs.Power.{zero, infinite, mainOf, powOf};
 ghost use Rattle.exponential.specs.Plain.{moderate, scaledOf, plain};
-use series::Four;
 use series::Pair;
 
 const LN2: f64 = 0.6931471805599453;
@@ -39,14 +38,14 @@ fn unbiased(b: u64) -> f64
 }
 
 // What ln is worked out from: u is f * 2^e, with f from 0.75 and below 1.5.
-struct Parts {
-    f: f64,
-    e: f64,
+pub struct Parts {
+    pub f: f64,
+    pub e: f64,
 }
 
 // The digits of u's pattern are those of f, and its exponent is e + 1023. The first digit after the
 // point says whether f is 1.5 at least; then f is halved by the exponent of its pattern.
-fn parts_of(u: f64) -> Parts
+pub fn parts_of(u: f64) -> Parts
     requires { ⌜ T (fits binary32 u) ⌝ ∗ ⌜ T (positive u) ⌝ }
     ensures { λ r. ⌜ lnAt (r .f) (r .e) ≡ lnOf u ⌝ }
 {
@@ -79,12 +78,12 @@ fn biased_floor(q: f64) -> f64
 }
 
 // What exp is worked out from: t is r + g * LN2, and power is 2^g.
-struct Reduced {
-    r: f64,
-    power: f64,
+pub struct Reduced {
+    pub r: f64,
+    pub power: f64,
 }
 
-fn reduce(t: f64) -> Reduced
+pub fn reduce(t: f64) -> Reduced
     requires { ⌜ (ne t t ≡ false) × (lt hundred t ≡ false) × (lt t lowest ≡ false) ⌝ }
     ensures { λ s. ⌜ scaledOf (s .r) (s .power) ≡ expOf t ⌝ }
 {
@@ -95,7 +94,7 @@ fn reduce(t: f64) -> Reduced
     }
 }
 
-fn exp(t: f64) -> f64
+pub fn exp(t: f64) -> f64
     ensures { λ r. ⌜ r ≡ expOf t ⌝ }
 {
     if t != t {
@@ -196,7 +195,7 @@ fn ln_pair(u: f64, v: f64) -> Pair
 }
 
 // Neither a NaN nor so far from 0 that exp is 0 or infinite.
-fn is_moderate(t: f64) -> bool
+pub fn is_moderate(t: f64) -> bool
     ensures { λ r. ⌜ r ≡ moderate t ⌝ }
 {
     !((t != t) | (t > 100.0) | (t < -110.0))
@@ -222,7 +221,7 @@ fn exp_pair(t: f64, u: f64) -> Pair
 }
 
 // Whether none of pow's rules but the last applies.
-fn is_plain(b: f32, y: f32) -> bool
+pub fn is_plain(b: f32, y: f32) -> bool
     ensures { λ r. ⌜ r ≡ plain b y ⌝ }
 {
     let infinite = is_infinite(b) | is_infinite(y);
@@ -250,98 +249,5 @@ pub fn pow_pair(a: f32, y: f32, b: f32, z: f32) -> Powers
     Powers {
         first: pow(a, y),
         second: pow(b, z),
-    }
-}
-
-// Four powers, likewise: two steps of two, of which neither waits for the other.
-pub struct FourPowers {
-    pub first: f32,
-    pub second: f32,
-    pub third: f32,
-    pub fourth: f32,
-}
-
-fn ln_four(u: f64, v: f64, w: f64, x: f64) -> Four
-    requires { ⌜ T (fits binary32 u) × T (positive u) ⌝ ∗ ⌜ T (fits binary32 v) × T (positive v) ⌝ ∗ ⌜ T (fits binary32 w) × T (positive w) ⌝ ∗ ⌜ T (fits binary32 x) × T (positive x) ⌝ }
-    ensures { λ r. ⌜ (r .first ≡ lnOf u) × (r .second ≡ lnOf v) × (r .third ≡ lnOf w) × (r .fourth ≡ lnOf x) ⌝ }
-{
-    let p = parts_of(u);
-    let q = parts_of(v);
-    let m = parts_of(w);
-    let n = parts_of(x);
-    let s = (p.f - 1.0) / (p.f + 1.0);
-    let t = (q.f - 1.0) / (q.f + 1.0);
-    let y = (m.f - 1.0) / (m.f + 1.0);
-    let z = (n.f - 1.0) / (n.f + 1.0);
-    let c = series::odd_reciprocals();
-    let h = series::horner_four(&c[..12], s * s, t * t, y * y, z * z);
-    Four {
-        first: p.e * LN2 + (2.0 * s) * h.first,
-        second: q.e * LN2 + (2.0 * t) * h.second,
-        third: m.e * LN2 + (2.0 * y) * h.third,
-        fourth: n.e * LN2 + (2.0 * z) * h.fourth,
-    }
-}
-
-fn exp_four(t: f64, u: f64, v: f64, w: f64) -> Four
-    ensures { λ r. ⌜ (r .first ≡ expOf t) × (r .second ≡ expOf u) × (r .third ≡ expOf v) × (r .fourth ≡ expOf w) ⌝ }
-{
-    if is_moderate(t) & is_moderate(u) & is_moderate(v) & is_moderate(w) {
-        let p = reduce(t);
-        let q = reduce(u);
-        let m = reduce(v);
-        let n = reduce(w);
-        let c = series::factorial_reciprocals();
-        let h = series::horner_four(&c[..14], p.r, q.r, m.r, n.r);
-        return Four {
-            first: h.first * p.power,
-            second: h.second * q.power,
-            third: h.third * m.power,
-            fourth: h.fourth * n.power,
-        };
-    }
-    Four {
-        first: exp(t),
-        second: exp(u),
-        third: exp(v),
-        fourth: exp(w),
-    }
-}
-
-fn main_four(a: f32, w: f32, b: f32, x: f32, c: f32, y: f32, d: f32, z: f32) -> FourPowers
-    requires { ⌜ T (positive a) ⌝ ∗ ⌜ T (positive b) ⌝ ∗ ⌜ T (positive c) ⌝ ∗ ⌜ T (positive d) ⌝ }
-    ensures { λ r. ⌜ (r .first ≡ mainOf a w) × (r .second ≡ mainOf b x) × (r .third ≡ mainOf c y) × (r .fourth ≡ mainOf d z) ⌝ }
-{
-    let l = ln_four(
-        ieee::widen(a),
-        ieee::widen(b),
-        ieee::widen(c),
-        ieee::widen(d),
-    );
-    let e = exp_four(
-        ieee::widen(w) * l.first,
-        ieee::widen(x) * l.second,
-        ieee::widen(y) * l.third,
-        ieee::widen(z) * l.fourth,
-    );
-    FourPowers {
-        first: ieee::narrow(e.first),
-        second: ieee::narrow(e.second),
-        third: ieee::narrow(e.third),
-        fourth: ieee::narrow(e.fourth),
-    }
-}
-
-pub fn pow_four(a: f32, w: f32, b: f32, x: f32, c: f32, y: f32, d: f32, z: f32) -> FourPowers
-    ensures { λ r. ⌜ (r .first ≡ powOf a w) × (r .second ≡ powOf b x) × (r .third ≡ powOf c y) × (r .fourth ≡ powOf d z) ⌝ }
-{
-    if is_plain(a, w) & is_plain(b, x) & is_plain(c, y) & is_plain(d, z) {
-        return main_four(a, w, b, x, c, y, d, z);
-    }
-    FourPowers {
-        first: pow(a, w),
-        second: pow(b, x),
-        third: pow(c, y),
-        fourth: pow(d, z),
     }
 }

@@ -2,13 +2,20 @@
 use mathlib.Core.Path.{_≡_, refl, sym, ap, _∙_}
 use lib.Ieee.{Float}
 use Rattle.lanes.specs.declared.Four.{Four}
+use Rattle.lanes.specs.declared.FourFloats.{FourFloats}
 use Rattle.lanes.specs.Lanes.{alikeOf, each, pairwise, stepOf}
 
 abbrev four : Float → Float → Float → Float → Four
 four a b c d = record { first = a; second = b; third = c; fourth = d }
 
-four-by : (a b c d e f g h : Float) → a ≡ e → b ≡ f → c ≡ g → d ≡ h → four a b c d ≡ four e f g h
+pub four-by : (a b c d e f g h : Float) → a ≡ e → b ≡ f → c ≡ g → d ≡ h → four a b c d ≡ four e f g h
 four-by a b c d e f g h p q r s = rw (p, q, r, s)
+
+abbrev floats : Float → Float → Float → Float → FourFloats
+floats a b c d = record { first = a; second = b; third = c; fourth = d }
+
+pub floats-by : (a b c d e f g h : Float) → a ≡ e → b ≡ f → c ≡ g → d ≡ h → floats a b c d ≡ floats e f g h
+floats-by a b c d e f g h p q r s = rw (p, q, r, s)
 
 pub alike-each : (c : Float) (f : Float → Float) (v : Four) → ((z : Float) → c ≡ f z) → alikeOf c ≡ each f v
 alike-each c f v e = four-by _ _ _ _ _ _ _ _ (e (v .first)) (e (v .second)) (e (v .third)) (e (v .fourth))

@@ -54,48 +54,6 @@ pub fn horner_pair(cs: &[f64], y: f64, z: f64) -> Pair
     }
 }
 
-pub struct Four {
-    pub first: f64,
-    pub second: f64,
-    pub third: f64,
-    pub fourth: f64,
-}
-
-// At four places.
-pub fn horner_four(cs: &[f64], t: f64, u: f64, v: f64, w: f64) -> Four
-    ensures { λ r. ⌜ (r .first ≡ hornerOf binary64 (now (cs .entry)) t) × (r .second ≡ hornerOf binary64 (now (cs .entry)) u) × (r .third ≡ hornerOf binary64 (now (cs .entry)) v) × (r .fourth ≡ hornerOf binary64 (now (cs .entry)) w) ⌝ }
-{
-    let n = cs.len();
-    if n == 0 {
-        return Four {
-            first: 0.0,
-            second: 0.0,
-            third: 0.0,
-            fourth: 0.0,
-        };
-    }
-    let mut k = n - 1;
-    let last = cs[k];
-    let mut e = last;
-    let mut f = last;
-    let mut g = last;
-    let mut h = last;
-    while k > 0 {
-        k -= 1;
-        let c = cs[k];
-        e = e * t + c;
-        f = f * u + c;
-        g = g * v + c;
-        h = h * w + c;
-    }
-    Four {
-        first: e,
-        second: f,
-        third: g,
-        fourth: h,
-    }
-}
-
 // 1 / (2k + 1) for k from 0 to 25.
 pub fn odd_reciprocals() -> [f64; 26]
     ensures { λ r. ⌜ r ≡ terms oddReciprocal 26 ⌝ }

@@ -1,5 +1,6 @@
 use Rattle.series.specs.Coefficients.{terms}
 use borrow.Author.Needs.{needs}
+use Rattle.exponential.specs.Logarithm.{lnAt}
 use Rattle.exponential.proofs.Series.{ln-by}
 use Rattle.exponential.proofs.ln_pair.Statement.{statement}
 use Rattle.exponential.proofs.ln_pair.Tie as tie
@@ -24,12 +25,13 @@ horner-pair-requires : tie.Need-horner-pair-requires
 horner-pair-requires c κs = search needs
 
 returns : tie.Need-returns
+unfolding lnAt
 returns c =
     let h = c .before .before .before .before in
     let e = h .before .before .odd-reciprocals .ensures in
     let p = h .before .before .before .before .before .before .before .before .parts-of in
     let q = h .before .before .before .before .before .before .before .parts-of2 in
-    (ln-by (p .result .f) (p .result .e) _ _ _ e (h .horner-pair .ensures .0) (p .ensures), ln-by (q .result .f) (q .result .e) _ _ _ e (h .horner-pair .ensures .1) (q .ensures))
+    (ln-by _ (p .result .e) _ _ _ e (h .horner-pair .ensures .0) (p .ensures), ln-by _ (q .result .e) _ _ _ e (h .horner-pair .ensures .1) (q .ensures))
 
 pub ln-pair-spec : {M : Type 1} → statement M
 ln-pair-spec =

@@ -1,0 +1,57 @@
+-- Four logarithms and exponentials from the first coefficients of a family; where four have no special case, none has. Assumes nothing.
+use mathlib.Core.Path.{_≡_, sym, ap, _∙_, subst}
+use mathlib.Core.Bool.{true}
+use mathlib.Core.List.{List}
+use lib.Dec.{T}
+use lib.ListN.{take}
+use lib.Ieee.{Float, binary32, binary64, fits, mul}
+use lib.Ieee.Positive.{positive}
+use Rattle.ieee.specs.Basic.{widenOf}
+use Rattle.series.specs.Horner.{hornerOf}
+use Rattle.series.specs.Coefficients.{H, terms, oddReciprocal, factorialReciprocal}
+use Rattle.lanes.specs.declared.Four.{Four}
+use Rattle.lanes.specs.declared.FourFloats.{FourFloats}
+use Rattle.lanes.specs.Lanes.{each, pairwise, pairwiseFloats}
+use Rattle.lanes.proofs.Laws.{four-by, floats-by}
+use Rattle.exponential.specs.Logarithm.{lnAt, lnOf}
+use Rattle.exponential.specs.Exponential.{expOf}
+use Rattle.exponential.specs.Power.{mainOf, powOf}
+use Rattle.exponential.specs.Plain.{logOf, plain}
+use Rattle.exponential.proofs.Series.{ln-by, exp-by}
+use Rattle.exponential.proofs.Plains.{all-four, plain-is}
+use Rattle.powers.specs.declared.FourParts.{FourParts}
+use Rattle.powers.specs.Powers.{quotientOf, logsOf, SplitAt, Splits, Reduces, RegularAt, AllPositive, allPlain}
+
+pub split-at : (f e s u : Float) → s ≡ quotientOf f → lnAt f e ≡ lnOf u → SplitAt s e u
+unfolding lnAt
+split-at f e s u q is = ap (λ (x : Float). logOf x e (H oddReciprocal (mul binary64 x x) 11)) q ∙ is
+
+pub logs-by : (cs : List Float) (p : FourParts) (h u : Four) → cs ≡ terms oddReciprocal 26 → h ≡ each (hornerOf binary64 (take 12 cs)) (pairwise (mul binary64) (p .s) (p .s)) → Splits (p .s) (p .e) u → logsOf p h ≡ each lnOf u
+logs-by cs p h u c q is =
+    four-by _ _ _ _ _ _ _ _
+    (ln-by (p .s .first) (p .e .first) cs (h .first) _ c (ap (λ (x : Four). x .first) q) (is .0))
+    (ln-by (p .s .second) (p .e .second) cs (h .second) _ c (ap (λ (x : Four). x .second) q) (is .1))
+    (ln-by (p .s .third) (p .e .third) cs (h .third) _ c (ap (λ (x : Four). x .third) q) (is .2))
+    (ln-by (p .s .fourth) (p .e .fourth) cs (h .fourth) _ c (ap (λ (x : Four). x .fourth) q) (is .3))
+
+pub exps-by : (cs : List Float) (h r power t : Four) → cs ≡ terms factorialReciprocal 16 → h ≡ each (hornerOf binary64 (take 14 cs)) r → Reduces r power t → pairwise (mul binary64) h power ≡ each expOf t
+exps-by cs h r power t c q is =
+    four-by _ _ _ _ _ _ _ _
+    (exp-by cs (h .first) (r .first) (power .first) _ c (ap (λ (x : Four). x .first) q) (is .0))
+    (exp-by cs (h .second) (r .second) (power .second) _ c (ap (λ (x : Four). x .second) q) (is .1))
+    (exp-by cs (h .third) (r .third) (power .third) _ c (ap (λ (x : Four). x .third) q) (is .2))
+    (exp-by cs (h .fourth) (r .fourth) (power .fourth) _ c (ap (λ (x : Four). x .fourth) q) (is .3))
+
+pub plain-are : (b y : FourFloats) → allPlain b y ≡ true → AllPositive b × (pairwiseFloats powOf b y ≡ pairwiseFloats mainOf b y)
+plain-are b y h =
+    let n = all-four (plain (b .first) (y .first)) (plain (b .second) (y .second)) (plain (b .third) (y .third)) (plain (b .fourth) (y .fourth)) h in
+    let p = plain-is (b .first) (y .first) (n .0) in
+    let q = plain-is (b .second) (y .second) (n .1) in
+    let r = plain-is (b .third) (y .third) (n .2) in
+    let s = plain-is (b .fourth) (y .fourth) (n .3) in
+    ((p .0, q .0, r .0, s .0), floats-by _ _ _ _ _ _ _ _ (p .1) (q .1) (r .1) (s .1))
+
+-- a value of binary32 that is positive, widened
+pub regular : (x y : Float) → y ≡ widenOf x → fits binary32 x ≡ true → T (positive x) → RegularAt y
+unfolding widenOf
+regular x y e f p = (subst (λ (z : Float). T (fits binary32 z)) (sym e) (subst T (sym f) tt), subst (λ (z : Float). T (positive z)) (sym e) p)

@@ -1,0 +1,70 @@
+use mathlib.Core.Path.{_∙_}
+use Rattle.series.specs.Coefficients.{terms}
+use Rattle.powers.proofs.Laws.{logs-by}
+use mathlib.Core.Path.{_≡_, ap}
+use lib.ListN.{take}
+use lib.Ieee.{binary64}
+use Rattle.series.specs.Horner.{hornerOf}
+use Rattle.lanes.specs.declared.Four.{Four}
+use Rattle.lanes.specs.Lanes.{each}
+use borrow.Author.Needs.{needs}
+use Rattle.powers.proofs.ln.Statement.{statement}
+use Rattle.powers.proofs.ln.Tie as tie
+
+split-requires : tie.Need-split-requires
+split-requires c κs = search needs
+
+split-requires-2 : tie.Need-split-requires-2
+split-requires-2 c κs = search needs
+
+multiply-requires : tie.Need-multiply-requires
+multiply-requires c κs = search needs
+
+multiply-requires-2 : tie.Need-multiply-requires-2
+multiply-requires-2 c κs = search needs
+
+odd-reciprocals-requires : tie.Need-odd-reciprocals-requires
+odd-reciprocals-requires c κs = search needs
+
+array-share-prefix-c : tie.Need-array-share-prefix-c
+array-share-prefix-c c = search needs
+
+slice-aggregate-horner : tie.Need-slice-aggregate-horner
+unfolding terms
+slice-aggregate-horner c = rw (c .before .odd-reciprocals .ensures)
+
+horner-requires : tie.Need-horner-requires
+horner-requires c κs = search needs
+
+logs-requires : tie.Need-logs-requires
+logs-requires c κs = search needs
+
+logs-requires-2 : tie.Need-logs-requires-2
+logs-requires-2 c κs = search needs
+
+returns : tie.Need-returns
+returns c =
+    let cs = c .before .before .before .before .odd-reciprocals in
+    let p = c .before .before .before .before .before .before .before .before .split in
+    let q = c .before .before .before .before .before .before .before .split2 in
+    let h = c .before .before .horner .ensures in
+    let squared : (x y : Four) → x ≡ y → each (hornerOf binary64 (take 12 (cs .result))) x ≡ each (hornerOf binary64 (take 12 (cs .result))) y = λ x y e. ap (λ (z : Four). each (hornerOf binary64 (take 12 (cs .result))) z) e in (
+      c .before .logs .ensures ∙ logs-by _ (p .result) _ _ (cs .ensures) (h .0 ∙ squared _ _ (c .before .before .before .before .before .before .multiply .ensures)) (p .ensures),
+      c .logs2 .ensures ∙ logs-by _ (q .result) _ _ (cs .ensures) (h .1 ∙ squared _ _ (c .before .before .before .before .before .multiply2 .ensures)) (q .ensures),
+    )
+
+pub ln-spec : {M : Type 1} → statement M
+ln-spec =
+    tie.close
+    (tie.spec
+    split-requires
+    split-requires-2
+    multiply-requires
+    multiply-requires-2
+    odd-reciprocals-requires
+    array-share-prefix-c
+    slice-aggregate-horner
+    horner-requires
+    logs-requires
+    logs-requires-2
+    returns)
