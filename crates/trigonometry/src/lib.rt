@@ -18,19 +18,19 @@ pub struct SinCos {
 }
 
 // A sine and a cosine, before they are narrowed.
-struct Pair {
-    s: f64,
-    c: f64,
+pub struct Pair {
+    pub s: f64,
+    pub c: f64,
 }
 
-fn sine_coefficients() -> [f64; 8]
+pub fn sine_coefficients() -> [f64; 8]
     ensures { λ r. ⌜ r ≡ terms sineTerm 8 ⌝ }
 {
     let f = series::factorial_reciprocals();
     [f[1], -f[3], f[5], -f[7], f[9], -f[11], f[13], -f[15]]
 }
 
-fn cosine_coefficients() -> [f64; 8]
+pub fn cosine_coefficients() -> [f64; 8]
     ensures { λ r. ⌜ r ≡ terms cosineTerm 8 ⌝ }
 {
     let f = series::factorial_reciprocals();
@@ -61,13 +61,13 @@ fn doubled(p: Pair) -> Pair
 }
 
 // No NaN, and of magnitude 8 at most. A comparison with a NaN is false.
-fn in_range(t: f32) -> bool
+pub fn in_range(t: f32) -> bool
     ensures { λ r. ⌜ r ≡ not (ne t t || lt eight (absOf t)) ⌝ }
 {
     -8.0 <= t && t <= 8.0
 }
 
-fn pair_at(t: f32) -> Pair
+pub fn pair_at(t: f32) -> Pair
     ensures { λ r. ⌜ r ≡ pairOf (widenOf t) ⌝ }
 {
     if in_range(t) {
