@@ -3,7 +3,7 @@
 mod cubic;
 
 ghost use mathlib.Core.Path.{_≡_};
-ghost use Prim.Native.Nat.{ℕ, _+_, _*_, _-_, _^_, _<_, _≤_};
+ghost use Prim.Native.Nat.{ℕ, _+_, _*_, _-_, _/_, _%_, _^_, _<_, _≤_};
 ghost use lib.Ieee.Nearest.{closest};
 ghost use lib.Ieee.Scale.{finite};
 ghost use lib.Ieee.{binary32, toBits};
@@ -105,6 +105,18 @@ fn pattern(e: u64, d: u64) -> u64
     0
 }
 
+// The pattern of the f32 nearest to the f64 with the pattern a, both without their signs. Where both are normal the pattern
+// itself is rounded: a carry out of the digits is one more in the exponent.
+fn rounded(a: u64) -> u64
+    requires { ⌜ a < 2 ^ 63 ⌝ }
+    ensures { λ r. ⌜ r ≡ patternOf (a / 2 ^ 52) (a % 2 ^ 52 + 2 ^ 52) ⌝ }
+{
+    if std::num::wrapping_sub_u64(a, 0x3810_0000_0000_0000) < 0xfe0_0000_0000_0000 {
+        return ((a + 0xfff_ffff + (a >> 29) % 2) >> 29) - 0x1_c000_0000;
+    }
+    pattern(a >> 52, a % 0x10_0000_0000_0000 + 0x10_0000_0000_0000)
+}
+
 pub fn narrow(x: f64) -> f32
     ensures { λ r. ⌜ r ≡ narrowOf x ⌝ }
 {
@@ -112,9 +124,7 @@ pub fn narrow(x: f64) -> f32
         return 0.0 / 0.0;
     }
     let bits: u64 = f64::to_bits(x);
-    let e: u64 = (bits >> 52) % 2048;
-    let d: u64 = bits % 0x10_0000_0000_0000 + 0x10_0000_0000_0000;
-    let p = pattern(e, d);
+    let p = rounded(bits % 0x8000_0000_0000_0000);
     f32::from_bits(((bits >> 63) * 0x8000_0000 + p) as u32)
 }
 
