@@ -258,21 +258,27 @@ fn equal_corners(tr: Quadrant) -> Corners
     }
 }
 
-fn both(t: [Point; 4], u: [Point; 4], a: SuperellipseConics, b: SuperellipseConics) -> BothCurves
-    ensures { λ r. ⌜ (r .top ≡ record { circle = t; conics = a }) × (r .right ≡ record { circle = u; conics = b }) ⌝ }
+fn both(
+    top_circle: [Point; 4],
+    right_circle: [Point; 4],
+    top_conics: SuperellipseConics,
+    right_conics: SuperellipseConics,
+) -> BothCurves
+    ensures { λ r. ⌜ (r .top ≡ record { circle = «top_circle»; conics = «top_conics» }) × (r .right ≡ record { circle = «right_circle»; conics = «right_conics» }) ⌝ }
 {
     BothCurves {
         top: Curves {
-            circle: t,
-            conics: a,
+            circle: top_circle,
+            conics: top_conics,
         },
         right: Curves {
-            circle: u,
-            conics: b,
+            circle: right_circle,
+            conics: right_conics,
         },
     }
 }
 
+// A solved corner, not reflected.
 fn round_one(param: Quadrant, solved: BothCurves, reverse: bool) -> Corner
     ensures { λ r. ⌜ callsOf r ≡ solvedCalls param (solved .top) (solved .right) reverse (mulOf (param .«signed_scale») (point one one)) ⌝ }
 {
@@ -351,7 +357,7 @@ fn any_square(shape: RoundSuperellipse) -> bool
     is_square(shape.top_left)
 }
 
-// A square corner has nothing to solve, so none keeps step with it.
+// A square corner has no curves, so that there is none to keep step with.
 fn unequal_corners(shape: RoundSuperellipse) -> Corners
     ensures { λ r. ⌜ callLists r ≡ unequalCorners shape ⌝ }
 {

@@ -189,7 +189,13 @@ fn four_met(o: FourOctants, x: FourFloats, y: FourFloats) -> FourPoints
 }
 
 // The tangents fall, by as much as k_h at h and k_j where the circle starts.
-fn four_joined(o: FourOctants, f: FourFactors, h: FourPoints, k_h: FourFloats, k_j: FourFloats) -> FourConics
+fn four_joined(
+    o: FourOctants,
+    f: FourFactors,
+    h: FourPoints,
+    k_h: FourFloats,
+    k_j: FourFloats,
+) -> FourConics
     ensures { λ r. ⌜ r ≡ joinedEach o f h «k_h» «k_j» ⌝ }
 {
     FourConics {
