@@ -3,13 +3,9 @@
 // Binary32 throughout, every operation rounded once, with the Rust's names and in its order.
 ghost use mathlib.Core.Path.{_≡_};
 ghost use Prim.Native.Nat.{_<_};
-ghost use Rattle.octant.specs.Binary32.{_⊖_, _⊗_, _⊘_};
-ghost use Rattle.geometry.specs.Point.{one};
-ghost use Rattle.exponential.specs.Power.{powOf};
 ghost use Rattle.arcs.specs.Conics.{conicAt, cappedDegree, superellipseConicFactorsOf, intersectionOf, meetingOf, joinedOf, superellipseConicsOf};
-ghost use Rattle.arcs.specs.Circle.{circularArcPointsOf};
+ghost use Rattle.arcs.specs.Circle.{arcPointsOf, circularArcPointsOf};
 ghost use Rattle.arcs.specs.Placement.{flippedOf, applyOf};
-use exponential::FourPowers;
 use geometry::Point;
 use octant::Octant;
 
@@ -54,21 +50,6 @@ pub struct SuperellipseConics {
 pub struct BothConics {
     pub first: SuperellipseConics,
     pub second: SuperellipseConics,
-}
-
-// Of four octants, in the order in which they are given.
-struct Degrees {
-    first: f32,
-    second: f32,
-    third: f32,
-    fourth: f32,
-}
-
-pub struct FourConics {
-    pub first: SuperellipseConics,
-    pub second: SuperellipseConics,
-    pub third: SuperellipseConics,
-    pub fourth: SuperellipseConics,
 }
 
 // The map from an octant's own space out to the shape's.
@@ -131,7 +112,7 @@ pub fn intersection(p1: Point, k1: f32, p2: Point, k2: f32) -> Point
 }
 
 // The conics of an octant whose first ends at h, by the slopes there and where the circle starts.
-fn joined(param: Octant, f: ConicFactors, h: Point, k_h: f32, k_j: f32) -> SuperellipseConics
+pub fn joined(param: Octant, f: ConicFactors, h: Point, k_h: f32, k_j: f32) -> SuperellipseConics
     ensures { λ r. ⌜ r ≡ joinedOf param f h «k_h» «k_j» ⌝ }
 {
     let a = Point {
@@ -152,7 +133,7 @@ fn joined(param: Octant, f: ConicFactors, h: Point, k_h: f32, k_j: f32) -> Super
 }
 
 // The height over a at which the conics meet.
-fn meeting(f: ConicFactors, yj_over_a: f32) -> f32
+pub fn meeting(f: ConicFactors, yj_over_a: f32) -> f32
     ensures { λ r. ⌜ r ≡ meetingOf f «yj_over_a» ⌝ }
 {
     (1.0 * f.yh_proportion + yj_over_a) / (f.yh_proportion + 1.0)
@@ -188,115 +169,45 @@ pub fn superellipse_conics(p: Octant, yp: f32, q: Octant, yq: f32) -> BothConics
     }
 }
 
-// The x at which the conics of each meet, as a part of its half-extent.
-fn four_roots(n: Degrees, powers: FourPowers) -> FourPowers
-    ensures { λ r. ⌜ (r .first ≡ powOf (one ⊖ powers .first) (one ⊘ n .first)) × (r .second ≡ powOf (one ⊖ powers .second) (one ⊘ n .second)) × (r .third ≡ powOf (one ⊖ powers .third) (one ⊘ n .third)) × (r .fourth ≡ powOf (one ⊖ powers .fourth) (one ⊘ n .fourth)) ⌝ }
+// The circular arc as a cubic, from the sine and cosine of minus its angle and the tangent of a quarter of it.
+pub fn arc_points(param: Octant, sin: f32, cos: f32, tan: f32) -> [Point; 4]
+    ensures { λ r. ⌜ r ≡ arcPointsOf param sin cos tan ⌝ }
 {
-    exponential::pow_four(
-        1.0 - powers.first,
-        1.0 / n.first,
-        1.0 - powers.second,
-        1.0 / n.second,
-        1.0 - powers.third,
-        1.0 / n.third,
-        1.0 - powers.fourth,
-        1.0 / n.fourth,
-    )
-}
-
-// The slope of the tangent at a point of each, but for the sign.
-fn four_slopes(n: Degrees, a: Point, b: Point, c: Point, d: Point) -> FourPowers
-    ensures { λ r. ⌜ (r .first ≡ powOf (a .x ⊘ a .y) (n .first ⊖ one)) × (r .second ≡ powOf (b .x ⊘ b .y) (n .second ⊖ one)) × (r .third ≡ powOf (c .x ⊘ c .y) (n .third ⊖ one)) × (r .fourth ≡ powOf (d .x ⊘ d .y) (n .fourth ⊖ one)) ⌝ }
-{
-    exponential::pow_four(
-        a.x / a.y,
-        n.first - 1.0,
-        b.x / b.y,
-        n.second - 1.0,
-        c.x / c.y,
-        n.third - 1.0,
-        d.x / d.y,
-        n.fourth - 1.0,
-    )
-}
-
-// Where the conics of an octant meet.
-fn met(param: Octant, root: f32, y: f32) -> Point
-    ensures { λ r. ⌜ (r .x ≡ root ⊗ param .«se_a») × (r .y ≡ y ⊗ param .«se_a») ⌝ }
-{
-    Point {
-        x: root * param.se_a,
-        y: y * param.se_a,
-    }
-}
-
-// The octants of two corners, all four in step.
-pub fn four_conics(p: Octant, q: Octant, r: Octant, s: Octant) -> FourConics
-    ensures { λ c. ⌜ (c .first ≡ superellipseConicsOf p (p .«circle_start» .y ⊘ p .«se_a»)) × (c .second ≡ superellipseConicsOf q (q .«circle_start» .y ⊘ q .«se_a»)) × (c .third ≡ superellipseConicsOf r (r .«circle_start» .y ⊘ r .«se_a»)) × (c .fourth ≡ superellipseConicsOf s (s .«circle_start» .y ⊘ s .«se_a»)) ⌝ }
-{
-    let n = Degrees {
-        first: p.se_n,
-        second: q.se_n,
-        third: r.se_n,
-        fourth: s.se_n,
+    let start = param.circle_start;
+    let start_vector = geometry::sub(start, param.circle_center);
+    let end_vector = Point {
+        x: start_vector.x * cos - start_vector.y * sin,
+        y: start_vector.x * sin + start_vector.y * cos,
     };
-    let f = superellipse_conic_factors(n.first, p.circle_start.x / p.se_a);
-    let g = superellipse_conic_factors(n.second, q.circle_start.x / q.se_a);
-    let h = superellipse_conic_factors(n.third, r.circle_start.x / r.se_a);
-    let i = superellipse_conic_factors(n.fourth, s.circle_start.x / s.se_a);
-    let yp = meeting(f, p.circle_start.y / p.se_a);
-    let yq = meeting(g, q.circle_start.y / q.se_a);
-    let yr = meeting(h, r.circle_start.y / r.se_a);
-    let ys = meeting(i, s.circle_start.y / s.se_a);
-    let powers = exponential::pow_four(yp, n.first, yq, n.second, yr, n.third, ys, n.fourth);
-    let roots = four_roots(n, powers);
-    let a = met(p, roots.first, yp);
-    let b = met(q, roots.second, yq);
-    let c = met(r, roots.third, yr);
-    let d = met(s, roots.fourth, ys);
-    let at_j = four_slopes(
-        n,
-        p.circle_start,
-        q.circle_start,
-        r.circle_start,
-        s.circle_start,
+    let circle_end = geometry::add(param.circle_center, end_vector);
+    // The tangent at the start is start_vector turned by a right angle, so as long.
+    let radius = geometry::length(start_vector);
+    let start_tangent = geometry::scale(
+        Point {
+            x: start_vector.y,
+            y: -start_vector.x,
+        },
+        1.0 / radius,
     );
-    let at_h = four_slopes(n, a, b, c, d);
-    FourConics {
-        first: joined(p, f, a, -at_h.first, -at_j.first),
-        second: joined(q, g, b, -at_h.second, -at_j.second),
-        third: joined(r, h, c, -at_h.third, -at_j.third),
-        fourth: joined(s, i, d, -at_h.fourth, -at_j.fourth),
-    }
+    let end_tangent = geometry::normalize(Point {
+        x: -end_vector.y,
+        y: end_vector.x,
+    });
+    let bezier_factor = tan * 4.0 / 3.0;
+    let first = geometry::scale(geometry::scale(start_tangent, bezier_factor), radius);
+    let second = geometry::scale(geometry::scale(end_tangent, bezier_factor), radius);
+    let control1 = geometry::add(start, first);
+    let control2 = geometry::add(circle_end, second);
+    [start, control1, control2, circle_end]
 }
 
 // The circular arc as a cubic: start, two controls, end.
 pub fn circular_arc_points(param: Octant) -> [Point; 4]
     ensures { λ r. ⌜ r ≡ circularArcPointsOf param ⌝ }
 {
-    let start = param.circle_start;
-    let start_vector = geometry::sub(start, param.circle_center);
     let turn = trigonometry::sin_cos(-param.circle_max_angle);
-    let end_vector = Point {
-        x: start_vector.x * turn.cos - start_vector.y * turn.sin,
-        y: start_vector.x * turn.sin + start_vector.y * turn.cos,
-    };
-    let circle_end = geometry::add(param.circle_center, end_vector);
-    let start_tangent = geometry::normalize(Point {
-        x: start_vector.y,
-        y: -start_vector.x,
-    });
-    let end_tangent = geometry::normalize(Point {
-        x: -end_vector.y,
-        y: end_vector.x,
-    });
-    let bezier_factor = trigonometry::tan(param.circle_max_angle / 4.0) * 4.0 / 3.0;
-    let radius = geometry::length(start_vector);
-    let first = geometry::scale(geometry::scale(start_tangent, bezier_factor), radius);
-    let second = geometry::scale(geometry::scale(end_tangent, bezier_factor), radius);
-    let control1 = geometry::add(start, first);
-    let control2 = geometry::add(circle_end, second);
-    [start, control1, control2, circle_end]
+    let tan = trigonometry::tan(param.circle_max_angle / 4.0);
+    arc_points(param, turn.sin, turn.cos, tan)
 }
 
 fn flipped(flip: bool, p: Point) -> Point

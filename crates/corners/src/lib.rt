@@ -1,15 +1,16 @@
 // What the outline of a shape draws, as placed points: a corner is two lines, or two octants of two conics and a cubic
 // each. An octant's curves are solved once, wherever they are placed.
 ghost use mathlib.Core.Path.{_≡_};
-ghost use mathlib.Core.Bool.{true, false};
-ghost use Rattle.geometry.specs.Point.{one};
+ghost use mathlib.Core.Bool.{true, false, _||_};
+ghost use Rattle.geometry.specs.Point.{one, mulOf};
 ghost use Rattle.octant.specs.Octant.{point};
-ghost use Rattle.corners.specs.Corners.{squareCorner, curvesOf, placementOf, placedConic, placedCubic, forwardsCalls, backwardsCalls, nextOf, squareCalls, solvedCalls, cornerCalls, equalCorners, unequalCorners, cornersOf, startPoint};
+ghost use Rattle.corners.specs.Corners.{squareCorner, curvesOf, placementOf, placedConic, placedCubic, forwardsCalls, backwardsCalls, nextOf, squareCalls, roundCalls, solvedCalls, cornerCalls, equalCorners, unequalCorners, cornersOf, startPoint};
 ghost use Rattle.corners.specs.Calls.{conicCall, cubicCall, callsForwards, callsBackwards, callsOf, callLists, drawingOf, outlineOf};
 use arcs::Placement;
 use arcs::SuperellipseConics;
 use geometry::Point;
 use octant::Octant;
+use octants::FourOctants;
 use quadrant::Quadrant;
 use shape::RoundSuperellipse;
 
@@ -23,17 +24,6 @@ pub struct Curves {
 struct BothCurves {
     top: Curves,
     right: Curves,
-}
-
-// Of two corners.
-struct FourCurves {
-    first: BothCurves,
-    second: BothCurves,
-}
-
-struct TwoCorners {
-    first: Corner,
-    second: Corner,
 }
 
 // A conic from the pen, and a cubic.
@@ -116,43 +106,6 @@ fn solve(top: Octant, right: Octant) -> BothCurves
         right: Curves {
             circle: right_circle,
             conics: right_conics,
-        },
-    }
-}
-
-// Two corners in step.
-fn solve_two(p: Quadrant, q: Quadrant) -> FourCurves
-    ensures { λ r. ⌜ (r .first .top ≡ curvesOf (p .top)) × (r .first .right ≡ curvesOf (p .right)) × (r .second .top ≡ curvesOf (q .top)) × (r .second .right ≡ curvesOf (q .right)) ⌝ }
-{
-    let c1 = arcs::circular_arc_points(p.top);
-    let c2 = arcs::circular_arc_points(p.right);
-    let c3 = arcs::circular_arc_points(q.top);
-    let c4 = arcs::circular_arc_points(q.right);
-    let conics = arcs::four_conics(p.top, p.right, q.top, q.right);
-    let first = conics.first;
-    let second = conics.second;
-    let third = conics.third;
-    let fourth = conics.fourth;
-    FourCurves {
-        first: BothCurves {
-            top: Curves {
-                circle: c1,
-                conics: first,
-            },
-            right: Curves {
-                circle: c2,
-                conics: second,
-            },
-        },
-        second: BothCurves {
-            top: Curves {
-                circle: c3,
-                conics: third,
-            },
-            right: Curves {
-                circle: c4,
-                conics: fourth,
-            },
         },
     }
 }
@@ -278,48 +231,6 @@ fn draw_corner(param: Quadrant, reverse: bool, scale_sign: Point) -> Corner
     round_corner(param, top, right, reverse, scale)
 }
 
-fn draw_apart(p: Quadrant, q: Quadrant) -> TwoCorners
-    ensures { λ r. ⌜ (callsOf (r .first) ≡ cornerCalls p false (point one one)) × (callsOf (r .second) ≡ cornerCalls q true (point one one)) ⌝ }
-{
-    let sign = Point { x: 1.0, y: 1.0 };
-    TwoCorners {
-        first: draw_corner(p, false, sign),
-        second: draw_corner(q, true, sign),
-    }
-}
-
-// Two corners that follow on each other, in step if neither is square.
-fn draw_two(p: Quadrant, q: Quadrant) -> TwoCorners
-    ensures { λ r. ⌜ (callsOf (r .first) ≡ cornerCalls p false (point one one)) × (callsOf (r .second) ≡ cornerCalls q true (point one one)) ⌝ }
-{
-    if is_square(p) {
-        return draw_apart(p, q);
-    }
-    if is_square(q) {
-        return draw_apart(p, q);
-    }
-    let sign = Point { x: 1.0, y: 1.0 };
-    let solved = solve_two(p, q);
-    let first = solved.first;
-    let second = solved.second;
-    TwoCorners {
-        first: round_corner(
-            p,
-            first.top,
-            first.right,
-            false,
-            geometry::mul(p.signed_scale, sign),
-        ),
-        second: round_corner(
-            q,
-            second.top,
-            second.right,
-            true,
-            geometry::mul(q.signed_scale, sign),
-        ),
-    }
-}
-
 // One quadrant, drawn four ways.
 fn equal_corners(tr: Quadrant) -> Corners
     ensures { λ r. ⌜ callLists r ≡ equalCorners tr ⌝ }
@@ -347,21 +258,118 @@ fn equal_corners(tr: Quadrant) -> Corners
     }
 }
 
-fn unequal_corners(shape: RoundSuperellipse) -> Corners
-    ensures { λ r. ⌜ callLists r ≡ unequalCorners shape ⌝ }
+fn both(
+    top_circle: [Point; 4],
+    right_circle: [Point; 4],
+    top_conics: SuperellipseConics,
+    right_conics: SuperellipseConics,
+) -> BothCurves
+    ensures { λ r. ⌜ (r .top ≡ record { circle = «top_circle»; conics = «top_conics» }) × (r .right ≡ record { circle = «right_circle»; conics = «right_conics» }) ⌝ }
 {
-    let right = draw_two(shape.top_right, shape.bottom_right);
-    let left = draw_two(shape.bottom_left, shape.top_left);
-    let first = right.first;
-    let second = right.second;
-    let third = left.first;
-    let fourth = left.second;
-    Corners {
+    BothCurves {
+        top: Curves {
+            circle: top_circle,
+            conics: top_conics,
+        },
+        right: Curves {
+            circle: right_circle,
+            conics: right_conics,
+        },
+    }
+}
+
+// A solved corner, not reflected.
+fn round_one(param: Quadrant, solved: BothCurves, reverse: bool) -> Corner
+    ensures { λ r. ⌜ callsOf r ≡ solvedCalls param (solved .top) (solved .right) reverse (mulOf (param .«signed_scale») (point one one)) ⌝ }
+{
+    let scale = geometry::mul(param.signed_scale, Point { x: 1.0, y: 1.0 });
+    let top = solved.top;
+    let right = solved.right;
+    round_corner(param, top, right, reverse, scale)
+}
+
+fn octants_of(p: Quadrant, q: Quadrant) -> FourOctants
+    ensures { λ r. ⌜ r ≡ record { first = p .top; second = p .right; third = q .top; fourth = q .right } ⌝ }
+{
+    let first = p.top;
+    let second = p.right;
+    let third = q.top;
+    let fourth = q.right;
+    FourOctants {
         first,
         second,
         third,
         fourth,
     }
+}
+
+// Four round corners, all eight octants in step.
+fn draw_round(p: Quadrant, q: Quadrant, r: Quadrant, s: Quadrant) -> Corners
+    ensures { λ c. ⌜ (callsOf (c .first) ≡ roundCalls p false (mulOf (p .«signed_scale») (point one one))) × (callsOf (c .second) ≡ roundCalls q true (mulOf (q .«signed_scale») (point one one))) × (callsOf (c .third) ≡ roundCalls r false (mulOf (r .«signed_scale») (point one one))) × (callsOf (c .fourth) ≡ roundCalls s true (mulOf (s .«signed_scale») (point one one))) ⌝ }
+{
+    let right = octants_of(p, q);
+    let left = octants_of(r, s);
+    let arcs = octants::arcs(right, left);
+    let conics = octants::conics(right, left);
+    let top1 = arcs.low.first;
+    let right1 = arcs.low.second;
+    let top2 = arcs.low.third;
+    let right2 = arcs.low.fourth;
+    let top3 = arcs.high.first;
+    let right3 = arcs.high.second;
+    let top4 = arcs.high.third;
+    let right4 = arcs.high.fourth;
+    let c = conics.low;
+    let d = conics.high;
+    Corners {
+        first: round_one(p, both(top1, right1, c.first, c.second), false),
+        second: round_one(q, both(top2, right2, c.third, c.fourth), true),
+        third: round_one(r, both(top3, right3, d.first, d.second), false),
+        fourth: round_one(s, both(top4, right4, d.third, d.fourth), true),
+    }
+}
+
+// Each corner by itself.
+fn draw_apart(shape: RoundSuperellipse) -> Corners
+    ensures { λ r. ⌜ callLists r ≡ unequalCorners shape ⌝ }
+{
+    let sign = Point { x: 1.0, y: 1.0 };
+    Corners {
+        first: draw_corner(shape.top_right, false, sign),
+        second: draw_corner(shape.bottom_right, true, sign),
+        third: draw_corner(shape.bottom_left, false, sign),
+        fourth: draw_corner(shape.top_left, true, sign),
+    }
+}
+
+fn any_square(shape: RoundSuperellipse) -> bool
+    ensures { λ r. ⌜ r ≡ squareCorner (shape .«top_right») || squareCorner (shape .«bottom_right») || squareCorner (shape .«bottom_left») || squareCorner (shape .«top_left») ⌝ }
+{
+    if is_square(shape.top_right) {
+        return true;
+    }
+    if is_square(shape.bottom_right) {
+        return true;
+    }
+    if is_square(shape.bottom_left) {
+        return true;
+    }
+    is_square(shape.top_left)
+}
+
+// A square corner has no curves, so that there is none to keep step with.
+fn unequal_corners(shape: RoundSuperellipse) -> Corners
+    ensures { λ r. ⌜ callLists r ≡ unequalCorners shape ⌝ }
+{
+    if any_square(shape) {
+        return draw_apart(shape);
+    }
+    draw_round(
+        shape.top_right,
+        shape.bottom_right,
+        shape.bottom_left,
+        shape.top_left,
+    )
 }
 
 fn draw_corners(shape: RoundSuperellipse) -> Corners

@@ -1,4 +1,4 @@
--- A vector and the one at right angles to it have one length: the same squares, added the other way round.
+-- A vector and those at right angles to it have one length: the same squares, added the other way round.
 use mathlib.Core.Path.{_≡_, refl, sym, ap, _∙_}
 use mathlib.Core.Bool.{Bool, true, false, cond, _&&_}
 use Prim.Native.Nat.{ℕ, _+_, _-_, _*_}
@@ -60,4 +60,11 @@ unfolding lengthOf lengthSquaredOf
 turned v =
     ap (sqrtOf binary32)
     (ap (λ (q : Float). add binary32 q (mul binary32 (v .x) (v .x))) (square-neg binary32 (v .y))
+    ∙ add-comm binary32 (mul binary32 (v .y) (v .y)) (mul binary32 (v .x) (v .x)))
+
+pub turned-back : (v : Point) → lengthOf (point (v .y) (neg (v .x))) ≡ lengthOf v
+unfolding lengthOf lengthSquaredOf
+turned-back v =
+    ap (sqrtOf binary32)
+    (ap (add binary32 (mul binary32 (v .y) (v .y))) (square-neg binary32 (v .x))
     ∙ add-comm binary32 (mul binary32 (v .y) (v .y)) (mul binary32 (v .x) (v .x)))

@@ -3,64 +3,19 @@ use borrow.Author.Needs.{needs}
 use Rattle.arcs.proofs.circular_arc_points.Statement.{statement}
 use Rattle.arcs.proofs.circular_arc_points.Tie as tie
 
-sub-requires : tie.Need-sub-requires
-sub-requires c κs = search needs
-
 sin-cos-requires : tie.Need-sin-cos-requires
 sin-cos-requires c κs = search needs
-
-add-requires : tie.Need-add-requires
-add-requires c κs = search needs
-
-normalize-requires : tie.Need-normalize-requires
-normalize-requires c κs = search needs
-
-normalize-requires-2 : tie.Need-normalize-requires-2
-normalize-requires-2 c κs = search needs
 
 tan-requires : tie.Need-tan-requires
 tan-requires c κs = search needs
 
-length-requires : tie.Need-length-requires
-length-requires c κs = search needs
-
-scale-requires : tie.Need-scale-requires
-scale-requires c κs = search needs
-
-scale-requires-2 : tie.Need-scale-requires-2
-scale-requires-2 c κs = search needs
-
-scale-requires-3 : tie.Need-scale-requires-3
-scale-requires-3 c κs = search needs
-
-scale-requires-4 : tie.Need-scale-requires-4
-scale-requires-4 c κs = search needs
-
-add-requires-2 : tie.Need-add-requires-2
-add-requires-2 c κs = search needs
-
-add-requires-3 : tie.Need-add-requires-3
-add-requires-3 c κs = search needs
+arc-points-requires : tie.Need-arc-points-requires
+arc-points-requires c κs = search needs
 
 returns : tie.Need-returns
 unfolding circularArcPointsOf
-returns c = rw (← c .before .before .before .before .before .before .before .before .before .before .before .before .before .before .before .before .before .before .before .before .before .before .before .before .sub .ensures, ← c .before .before .before .before .before .before .before .before .before .before .before .before .before .before .before .before .before .before .before .before .before .before .sin-cos .ensures, ← c .before .before .before .before .before .before .before .before .before .before .before .before .before .add .ensures, ← c .before .before .before .before .before .before .before .before .before .before .before .normalize .ensures, ← c .before .before .before .before .before .before .before .before .before .normalize2 .ensures, ← c .before .before .before .before .before .before .before .tan .ensures, ← c .before .before .before .before .before .before .length .ensures, ← c .before .before .before .before .before .scale .ensures, ← c .before .before .before .before .scale2 .ensures, ← c .before .before .before .scale3 .ensures, ← c .before .before .scale4 .ensures, ← c .before .add2 .ensures, ← c .add3 .ensures)
+returns c = rw (← c .before .before .before .sin-cos .ensures, ← c .before .tan .ensures, ← c .arc-points .ensures)
 
 pub circular-arc-points-spec : {M : Type 1} → statement M
 circular-arc-points-spec =
-    tie.close
-    (tie.spec
-    sub-requires
-    sin-cos-requires
-    add-requires
-    normalize-requires
-    normalize-requires-2
-    tan-requires
-    length-requires
-    scale-requires
-    scale-requires-2
-    scale-requires-3
-    scale-requires-4
-    add-requires-2
-    add-requires-3
-    returns)
+    tie.close (tie.spec sin-cos-requires tan-requires arc-points-requires returns)
