@@ -219,6 +219,7 @@ pub fn conics(p: FourOctants, q: FourOctants) -> EightConics
     let powers = powers::pow(y, n, z, m);
     let n_less = less_one(n);
     let m_less = less_one(m);
+    // These wait for no other power: they go between the powers and the roots, which wait for those.
     let at_j = powers::pow(ratios(starts(p)), n_less, ratios(starts(q)), m_less);
     let roots = powers::pow(
         complements(powers.low),
