@@ -1,6 +1,6 @@
 -- Where exp and pow have no special case, each of their tests says no. Assumes nothing.
 use mathlib.Core.Path.{_≡_, refl, sym}
-use mathlib.Core.Bool.{Bool, true, false, not, _&&_, _||_, true≢false}
+use mathlib.Core.Bool.{Bool, true, false, not, _||_, true≢false}
 use lib.Dec.{T}
 use lib.Ieee.{Float, lt, eq, ne}
 use lib.Ieee.Positive.{positive}
@@ -8,17 +8,6 @@ use Rattle.exponential.specs.Constants.{hundred, lowest}
 use Rattle.exponential.specs.Power.{zero, one, infinite, mainOf, powOf}
 use Rattle.exponential.specs.Plain.{moderate, plain}
 use Rattle.exponential.proofs.Rules.{above-zero}
-
-pub both : (a b : Bool) → (a && b) ≡ true → (a ≡ true) × (b ≡ true)
-both true true h = (refl, refl)
-both true false h = absurd (true≢false (sym h))
-both false b h = absurd (true≢false (sym h))
-
-pub all-four : (a b c d : Bool) → (a && b && c && d) ≡ true → (a ≡ true) × (b ≡ true) × (c ≡ true) × (d ≡ true)
-all-four a b c d h =
-    let abc = both (a && b && c) d h in
-    let ab = both (a && b) c (abc .0) in
-    (both a b (ab .0) .0, both a b (ab .0) .1, ab .1, abc .1)
 
 none-of-three : (a b c : Bool) → not (a || b || c) ≡ true → (a ≡ false) × (b ≡ false) × (c ≡ false)
 none-of-three true b c h = absurd (true≢false (sym h))

@@ -7,6 +7,7 @@ use lib.ListN.{take}
 use lib.Ieee.{Float, binary32, binary64, fits, mul}
 use lib.Ieee.Positive.{positive}
 use Rattle.ieee.specs.Basic.{widenOf}
+use Rattle.ieee.proofs.Tests.{all-four}
 use Rattle.series.specs.Horner.{hornerOf}
 use Rattle.series.specs.Coefficients.{H, terms, oddReciprocal, factorialReciprocal}
 use Rattle.lanes.specs.declared.Four.{Four}
@@ -18,7 +19,7 @@ use Rattle.exponential.specs.Exponential.{expOf}
 use Rattle.exponential.specs.Power.{mainOf, powOf}
 use Rattle.exponential.specs.Plain.{logOf, plain}
 use Rattle.exponential.proofs.Series.{ln-by, exp-by}
-use Rattle.exponential.proofs.Plains.{all-four, plain-is}
+use Rattle.exponential.proofs.Plains.{plain-is}
 use Rattle.powers.specs.declared.FourParts.{FourParts}
 use Rattle.powers.specs.Powers.{quotientOf, logsOf, SplitAt, Splits, Reduces, RegularAt, AllPositive, allPlain}
 

@@ -1,9 +1,10 @@
 -- Four pairs doubled side by side are each pair doubled; in range, four times doubled is the pair of the angle. Assumes nothing.
-use mathlib.Core.Path.{_≡_, refl, sym}
-use mathlib.Core.Bool.{Bool, true, false, _&&_, _||_, true≢false}
+use mathlib.Core.Path.{_≡_, refl}
+use mathlib.Core.Bool.{true, _||_}
 use borrow.Author.Tests.{not-true}
 use lib.Ieee.{Float, lt, ne}
 use Rattle.ieee.specs.Basic.{widenOf, absOf}
+use Rattle.ieee.proofs.Tests.{all-four}
 use Rattle.lanes.specs.declared.Four.{Four}
 use Rattle.lanes.specs.declared.FourFloats.{FourFloats}
 use Rattle.lanes.specs.Lanes.{widened}
@@ -12,17 +13,6 @@ use Rattle.trigonometry.specs.declared.Pair.{Pair}
 use Rattle.trigonometry.specs.Sine.{sixteenthOf, doubledOf, pairOf}
 use Rattle.turns.specs.declared.FourPairs.{FourPairs}
 use Rattle.turns.specs.Turns.{pairsEach, pairsOf, doubledEach, inRange, allInRange}
-
-pub both : (a b : Bool) → (a && b) ≡ true → (a ≡ true) × (b ≡ true)
-both true true h = (refl, refl)
-both true false h = absurd (true≢false (sym h))
-both false b h = absurd (true≢false (sym h))
-
-all-four : (a b c d : Bool) → (a && b && c && d) ≡ true → (a ≡ true) × (b ≡ true) × (c ≡ true) × (d ≡ true)
-all-four a b c d h =
-    let abc = both (a && b && c) d h in
-    let ab = both (a && b) c (abc .0) in
-    (both a b (ab .0) .0, both a b (ab .0) .1, ab .1, abc .1)
 
 abbrev fourTimes : FourPairs → FourPairs
 fourTimes p = doubledEach (doubledEach (doubledEach (doubledEach p)))

@@ -1,7 +1,8 @@
 use mathlib.Core.Path.{sym, _∙_}
 use Rattle.series.specs.Coefficients.{terms}
 use borrow.Author.Needs.{needs}
-use Rattle.exponential.proofs.Plains.{both, moderate-is}
+use Rattle.ieee.proofs.Tests.{both}
+use Rattle.exponential.proofs.Plains.{moderate-is}
 use Rattle.exponential.proofs.Series.{exp-by}
 use Rattle.exponential.proofs.exp_pair.Statement.{statement}
 use Rattle.exponential.proofs.exp_pair.Tie as tie

@@ -3,7 +3,8 @@ use mathlib.Core.Bool.{true}
 use lib.Dec.{T}
 use lib.Ieee.Positive.{positive}
 use Rattle.exponential.specs.Power.{mainOf, powOf}
-use Rattle.exponential.proofs.Plains.{both, plain-is}
+use Rattle.ieee.proofs.Tests.{both}
+use Rattle.exponential.proofs.Plains.{plain-is}
 use borrow.Author.Needs.{needs}
 use Rattle.exponential.proofs.pow_pair.Statement.{statement}
 use Rattle.exponential.proofs.pow_pair.Tie as tie

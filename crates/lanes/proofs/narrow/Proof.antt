@@ -2,27 +2,19 @@ use Rattle.lanes.specs.Lanes.{narrowed}
 use borrow.Author.Needs.{needs}
 use Rattle.lanes.proofs.narrow.Statement.{statement}
 use Rattle.lanes.proofs.narrow.Tie as tie
-use Rattle.lanes.proofs.narrow.Reads as reads
-use Rattle.lanes.proofs.narrow.Lts as lts
-use Rattle.ieee.proofs.narrow.Reads as narrow-reads
 
--- src/lib.rt:47:16
 narrow-requires : tie.Need-narrow-requires
 narrow-requires c κs = search needs
 
--- src/lib.rt:48:17
 narrow-requires-2 : tie.Need-narrow-requires-2
 narrow-requires-2 c κs = search needs
 
--- src/lib.rt:49:16
 narrow-requires-3 : tie.Need-narrow-requires-3
 narrow-requires-3 c κs = search needs
 
--- src/lib.rt:50:17
 narrow-requires-4 : tie.Need-narrow-requires-4
 narrow-requires-4 c κs = search needs
 
--- src/lib.rt:43:1
 returns : tie.Need-returns
 returns c = rw (← c .before .before .before .narrow .ensures, ← c .before .before .narrow2 .ensures, ← c .before .narrow3 .ensures, ← c .narrow4 .ensures)
 

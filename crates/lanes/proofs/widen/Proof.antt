@@ -2,27 +2,19 @@ use Rattle.lanes.specs.Lanes.{widened}
 use borrow.Author.Needs.{needs}
 use Rattle.lanes.proofs.widen.Statement.{statement}
 use Rattle.lanes.proofs.widen.Tie as tie
-use Rattle.lanes.proofs.widen.Reads as reads
-use Rattle.lanes.proofs.widen.Lts as lts
-use Rattle.ieee.proofs.widen.Reads as widen-reads
 
--- src/lib.rt:36:16
 widen-requires : tie.Need-widen-requires
 widen-requires c κs = search needs
 
--- src/lib.rt:37:17
 widen-requires-2 : tie.Need-widen-requires-2
 widen-requires-2 c κs = search needs
 
--- src/lib.rt:38:16
 widen-requires-3 : tie.Need-widen-requires-3
 widen-requires-3 c κs = search needs
 
--- src/lib.rt:39:17
 widen-requires-4 : tie.Need-widen-requires-4
 widen-requires-4 c κs = search needs
 
--- src/lib.rt:32:1
 returns : tie.Need-returns
 returns c = rw (← c .before .before .before .widen .ensures, ← c .before .before .widen2 .ensures, ← c .before .widen3 .ensures, ← c .widen4 .ensures)
 

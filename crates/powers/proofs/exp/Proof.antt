@@ -1,6 +1,6 @@
 use mathlib.Core.Path.{sym, _∙_}
 use Rattle.series.specs.Coefficients.{terms}
-use Rattle.exponential.proofs.Plains.{both}
+use Rattle.ieee.proofs.Tests.{both}
 use Rattle.powers.proofs.Laws.{exps-by}
 use borrow.Author.Needs.{needs}
 use Rattle.powers.proofs.exp.Statement.{statement}

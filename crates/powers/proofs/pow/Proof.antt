@@ -1,7 +1,7 @@
 use mathlib.Core.Path.{_≡_, sym, _∙_}
 use Rattle.lanes.specs.Lanes.{pairwiseFloats}
 use Rattle.exponential.specs.Power.{mainOf, powOf}
-use Rattle.exponential.proofs.Plains.{both}
+use Rattle.ieee.proofs.Tests.{both}
 use Rattle.powers.specs.Powers.{AllPositive}
 use Rattle.powers.proofs.Laws.{plain-are}
 use borrow.Author.Needs.{needs}

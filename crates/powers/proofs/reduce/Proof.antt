@@ -3,7 +3,8 @@ use mathlib.Core.Bool.{false}
 use lib.Ieee.{Float, lt, ne}
 use Rattle.exponential.specs.Constants.{hundred, lowest}
 use Rattle.exponential.specs.Plain.{moderate}
-use Rattle.exponential.proofs.Plains.{all-four, moderate-is}
+use Rattle.ieee.proofs.Tests.{all-four}
+use Rattle.exponential.proofs.Plains.{moderate-is}
 use borrow.Author.Needs.{needs}
 use Rattle.powers.proofs.reduce.Statement.{statement}
 use Rattle.powers.proofs.reduce.Tie as tie

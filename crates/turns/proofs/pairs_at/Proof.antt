@@ -1,7 +1,8 @@
 use mathlib.Core.Path.{sym, ap, _∙_}
 use Rattle.trigonometry.specs.Sine.{sixteenthOf}
 use Rattle.turns.specs.Turns.{pairsEach}
-use Rattle.turns.proofs.Doubling.{both, pairs-in-range}
+use Rattle.ieee.proofs.Tests.{both}
+use Rattle.turns.proofs.Doubling.{pairs-in-range}
 use borrow.Author.Needs.{needs}
 use Rattle.turns.proofs.pairs_at.Statement.{statement}
 use Rattle.turns.proofs.pairs_at.Tie as tie

@@ -1,0 +1,14 @@
+-- Tests that all say yes. Assumes nothing.
+use mathlib.Core.Path.{_≡_, refl, sym}
+use mathlib.Core.Bool.{Bool, true, false, _&&_, true≢false}
+
+pub both : (a b : Bool) → (a && b) ≡ true → (a ≡ true) × (b ≡ true)
+both true true h = (refl, refl)
+both true false h = absurd (true≢false (sym h))
+both false b h = absurd (true≢false (sym h))
+
+pub all-four : (a b c d : Bool) → (a && b && c && d) ≡ true → (a ≡ true) × (b ≡ true) × (c ≡ true) × (d ≡ true)
+all-four a b c d h =
+    let abc = both (a && b && c) d h in
+    let ab = both (a && b) c (abc .0) in
+    (both a b (ab .0) .0, both a b (ab .0) .1, ab .1, abc .1)
