@@ -56,6 +56,26 @@ run-more l v i x h =
     ∙ put-after l (put l v (replicate i x)) v (v + i) (replicate i x) (x ∷ []) (omega arith) (omega arith) refl
     ∙ ap (put l v) (one-more i x ∙ ap (λ (m : ℕ). replicate m x) e)
 
+-- the first four of a run
+pub run-1 : (l : List ℕ) (v x : ℕ) → v < length l → set l v x ≡ put l v (replicate 1 x)
+run-1 l v x h = put-one l v x h
+
+pub run-2 : (l : List ℕ) (v x : ℕ) → v + 1 < length l → set (set l v x) (v + 1) x ≡ put l v (replicate 2 x)
+run-2 l v x h = ap (λ (m : List ℕ). set m (v + 1) x) (run-1 l v x (omega arith)) ∙ run-more l v 1 x h
+
+pub run-3 : (l : List ℕ) (v x : ℕ) → v + 2 < length l → set (set (set l v x) (v + 1) x) (v + 2) x ≡ put l v (replicate 3 x)
+run-3 l v x h = ap (λ (m : List ℕ). set m (v + 2) x) (run-2 l v x (omega arith)) ∙ run-more l v 2 x h
+
+pub run-4 : (l : List ℕ) (v x : ℕ) → v + 3 < length l → set (set (set (set l v x) (v + 1) x) (v + 2) x) (v + 3) x ≡ put l v (replicate 4 x)
+run-4 l v x h = ap (λ (m : List ℕ). set m (v + 3) x) (run-3 l v x (omega arith)) ∙ run-more l v 3 x h
+
+-- four and more behind them
+pub run-on : (l m : List ℕ) (v n x : ℕ) → m ≡ put l v (replicate 4 x) → v + n ≤ length l → 4 ≤ n → put m (v + 4) (replicate (n - 4) x) ≡ put l v (replicate n x)
+run-on l m v n x e h k =
+    let z = length-run (n - 4) x in
+    let s : suc (suc (suc (suc (n - 4)))) ≡ n = omega arith in
+    put-after l m v (v + 4) (replicate 4 x) (replicate (n - 4) x) (omega arith) refl e ∙ ap (λ (j : ℕ). put l v (replicate j x)) s
+
 pub length-filled : (l : List ℕ) (v n x : ℕ) → v + n ≤ length l → length (put l v (replicate n x)) ≡ length l
 length-filled l v n x h = let e = length-run n x in length-put l v (replicate n x) (omega arith)
 

@@ -311,14 +311,65 @@ fn push_first(unsure: bool, points: &mut [f32], at: &mut usize, word: &mut u64, 
     );
 }
 
-// n quads as verbs from v on.
-fn fill_quads(verbs: &mut [u8], v: usize, n: usize)
+// Four quads as verbs from v on.
+fn fill_four(verbs: &mut [u8], v: usize)
+    requires { ⌜ v + 4 ≤ length (now verbs) ⌝ }
+    ensures { λ _. ⌜ now (verbs .exit) ≡ put (now (verbs .entry)) v (replicate 4 2) ⌝ }
+{
+    verbs[v] = 2;
+    verbs[v + 1] = 2;
+    verbs[v + 2] = 2;
+    verbs[v + 3] = 2;
+}
+
+// At most four.
+fn fill_few(verbs: &mut [u8], v: usize, n: usize)
+    requires { ⌜ (n ≤ 4) × (v + n ≤ length (now verbs)) ⌝ }
+    ensures { λ _. ⌜ now (verbs .exit) ≡ put (now (verbs .entry)) v (replicate n 2) ⌝ }
+{
+    if n == 0 {
+        return;
+    }
+    verbs[v] = 2;
+    if n == 1 {
+        return;
+    }
+    verbs[v + 1] = 2;
+    if n == 2 {
+        return;
+    }
+    verbs[v + 2] = 2;
+    if n == 3 {
+        return;
+    }
+    verbs[v + 3] = 2;
+}
+
+// Any number of them.
+fn fill_many(verbs: &mut [u8], v: usize, n: usize)
     requires { ⌜ v + n ≤ length (now verbs) ⌝ }
     ensures { λ _. ⌜ now (verbs .exit) ≡ put (now (verbs .entry)) v (replicate n 2) ⌝ }
 {
     for i in 0..n {
         verbs[v + i] = 2;
     }
+}
+
+// The same. The compiler makes a call of the loop, which costs more than the few bytes that most conics have.
+fn fill_quads(verbs: &mut [u8], v: usize, n: usize)
+    requires { ⌜ v + n ≤ length (now verbs) ⌝ }
+    ensures { λ _. ⌜ now (verbs .exit) ≡ put (now (verbs .entry)) v (replicate n 2) ⌝ }
+{
+    if n < 4 {
+        fill_few(verbs, v, n);
+        return;
+    }
+    if n <= 8 {
+        fill_four(verbs, v);
+        fill_few(verbs, v + 4, n - 4);
+        return;
+    }
+    fill_many(verbs, v, n);
 }
 
 // The quads of a conic that is more than one, as verbs from v on and points from p on.

@@ -1,65 +1,57 @@
-use mathlib.Core.Path.{_≡_, sym, ap, _∙_}
-use mathlib.Core.List.{List}
-use Prim.Native.Nat.{ℕ, _+_, _-_, _≤_}
+use mathlib.Core.Path.{_∙_}
 use native.Mathlib.Omega.{arith}
-use lib.ListN.{length, set, replicate}
-use Rattle.stream.specs.Stream.{put}
-use Rattle.stream.proofs.Put.{put-nil}
-use Rattle.lowering.proofs.Writing.{run-more, length-filled}
+use Rattle.lowering.proofs.Writing.{run-on}
+use borrow.Author.Needs.{needs}
 use Rattle.lowering.proofs.fill_quads.Statement.{statement}
 use Rattle.lowering.proofs.fill_quads.Tie as tie
 
-abbrev Inv-loop : tie.InvT-loop
-Inv-loop verbs₀ v n i₀ verbs i = (i ≤ n) × (verbs ≡ put verbs₀ v (replicate i 2))
+fill-few-requires : tie.Need-fill-few-requires
+fill-few-requires c κs = search needs
 
-abbrev μ-loop : tie.MeasureT-loop
-μ-loop verbs₀ v n i₀ verbs i = n - i
+same-length : tie.Need-same-length
+same-length c = search needs
 
-length-so-far : (c : tie.At-loop Inv-loop μ-loop) → length (c .loop .verbs) ≡ length (c .before .args .verbs .now)
-length-so-far c =
-    let a = c .before .args in
-    ap length (c .loop .inv .1) ∙ length-filled (a .verbs .now) (a .v) (c .loop .i) 2 (omega (arith, c .before .pre))
+returns : tie.Need-returns
+returns c = search needs
 
-loop-holds : tie.Need-loop-holds Inv-loop μ-loop
-loop-holds c = (omega arith, sym (put-nil (c .args .verbs .now) (c .args .v)))
+fill-four-requires : tie.Need-fill-four-requires
+fill-four-requires c κs = search needs
 
-add-verbs : tie.Need-add-verbs Inv-loop μ-loop
-add-verbs c = omega (arith, c .before .before .pre, c .before .before .good)
+add-fill-few : tie.Need-add-fill-few
+add-fill-few c = search needs
 
-slice-write-verbs : tie.Need-slice-write-verbs Inv-loop μ-loop
-slice-write-verbs c = omega (arith, c .before .before .pre, length-so-far (c .before))
+fill-few-requires-2 : tie.Need-fill-few-requires-2
+fill-few-requires-2 c κs = search needs
 
-add-i : tie.Need-add-i Inv-loop μ-loop
-add-i c = omega (arith, c .before .before .good)
+same-length-2 : tie.Need-same-length-2
+same-length-2 c = search needs
 
-loop-less : tie.Need-loop-less Inv-loop μ-loop
-loop-less c = omega arith
+returns-2 : tie.Need-returns-2
+returns-2 c =
+    let a = c .before .before .before .before .before .before .before .before .before .before .before .args in
+    c .before .before .fill-few2 .ensures ∙ run-on (a .verbs .now) _ (a .v) (a .n) 2 (c .before .before .before .before .before .before .fill-four .ensures) (omega (arith, c .before .before .before .before .before .before .before .before .before .before .before .pre)) (omega arith)
 
-loop-again : tie.Need-loop-again Inv-loop μ-loop
-loop-again c =
-    let a = c .before .before .args in
-    (omega arith, ap (λ (l : List ℕ). set l (a .v + c .before .loop .i) 2) (c .before .loop .inv .1) ∙ run-more (a .verbs .now) (a .v) (c .before .loop .i) 2 (omega (arith, c .before .before .pre)))
+fill-many-requires : tie.Need-fill-many-requires
+fill-many-requires c κs = search needs
 
-same-length : tie.Need-same-length Inv-loop μ-loop
-same-length c = length-so-far (c .before)
+same-length-3 : tie.Need-same-length-3
+same-length-3 c = search needs
 
-returns : tie.Need-returns Inv-loop μ-loop
-returns c =
-    let a = c .before .before .args in
-    let e : c .before .loop .i ≡ a .n = omega arith in
-    c .before .loop .inv .1 ∙ ap (λ (k : ℕ). put (a .verbs .now) (a .v) (replicate k 2)) e
+returns-3 : tie.Need-returns-3
+returns-3 c = search needs
 
 pub fill-quads-spec : {M : Type 1} → statement M
 fill-quads-spec =
     tie.close
     (tie.spec
-    Inv-loop
-    μ-loop
-    loop-holds
-    add-verbs
-    slice-write-verbs
-    add-i
-    loop-less
-    loop-again
+    fill-few-requires
     same-length
-    returns)
+    returns
+    fill-four-requires
+    add-fill-few
+    fill-few-requires-2
+    same-length-2
+    returns-2
+    fill-many-requires
+    same-length-3
+    returns-3)
