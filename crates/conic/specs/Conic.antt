@@ -1,6 +1,6 @@
 -- One step of the Rust's push_conic: which conics are a line, when a conic is flat enough for one quad, and how it is halved.
 -- Each float operation of binary32 is rounded once, in the order of the Rust. Definitions only.
-use mathlib.Core.Bool.{Bool, true, false, cond, not, _||_}
+use mathlib.Core.Bool.{Bool, true, false, cond, not, _&&_, _||_}
 use lib.Ieee.{Float, binary32, ofBits, add, sub, mul, div, lt, le}
 use lib.Ieee.Scale.{finite}
 use Rattle.ieee.specs.Basic.{absOf}
@@ -88,17 +88,16 @@ less = ofBits binary32 0x3586_37ab
 abbrev pub more : Float
 more = ofBits binary32 0x3586_37cf
 
--- the same without roots, where they are not needed: of a weight that is not near 1, and of any
-unfoldable pub closenessOf : Conic → Flatness
-closenessOf c =
-    let chord = chordOf c in
-    let distance = distanceOf c in
-    cond (lt tiny chord)
-    (cond (le distance (mul binary32 less chord)) (cond (le zero distance) Flat Unsure) (cond (lt (mul binary32 more chord) distance) Curved Unsure))
-    Unsure
+-- by the squared lengths alone, of a weight that is not near 1: flat, and not flat; where neither holds, the roots decide
+unfoldable pub surelyNear : Conic → Bool
+surelyNear c = lt tiny (chordOf c) && le (distanceOf c) (mul binary32 less (chordOf c)) && le zero (distanceOf c)
 
+unfoldable pub surelyFar : Conic → Bool
+surelyFar c = lt tiny (chordOf c) && lt (mul binary32 more (chordOf c)) (distanceOf c)
+
+-- the same of any weight, as one answer
 unfoldable pub flatnessOf : Conic → Flatness
-flatnessOf c = cond (nearOneOf (c .weight)) Flat (closenessOf c)
+flatnessOf c = cond (nearOneOf (c .weight)) Flat (cond (surelyNear c) Flat (cond (surelyFar c) Curved Unsure))
 
 -- the weight of both halves of a conic with this weight
 unfoldable pub halfWeightOf : Float → Float

@@ -3,7 +3,7 @@
 ghost use mathlib.Core.Path.{_≡_};
 ghost use Prim.Native.Nat.{ℕ, _≤_};
 ghost use lib.ListN.{length};
-ghost use Rattle.conic.specs.Conic.{conicAt, isLine, lowerOf, conicMid, quadMid, distanceOf, chordOf, nearOneOf, nearOf, flatOf, closenessOf, flatnessOf, halfWeightOf, splitOf, halvesOf};
+ghost use Rattle.conic.specs.Conic.{conicAt, isLine, lowerOf, conicMid, quadMid, distanceOf, chordOf, nearOneOf, nearOf, flatOf, surelyNear, surelyFar, flatnessOf, halfWeightOf, splitOf, halvesOf};
 ghost use Rattle.conic.specs.Halving.{halve, countOf};
 use geometry::Point;
 
@@ -26,6 +26,12 @@ pub enum Flatness {
     Flat,
     Curved,
     Unsure,
+}
+
+// What the squared lengths tell of a conic whose weight is not near 1: where neither holds, only roots can tell.
+pub struct BySquares {
+    pub flat: bool,
+    pub curved: bool,
 }
 
 // What a conic is drawn as: one line, or the quads of a curve.
@@ -98,9 +104,9 @@ pub fn is_near_one(w: f32) -> bool
 // squared lengths. Roots and product are each off by a part in 2^23 at most, so they can decide only where the one is
 // within two parts in a million of a millionth of the other; near 0 that bound fails.
 // What is called at each halving takes a conic's floats one by one: a record would go through memory
-// at each call.
-pub fn closeness(x0: f32, y0: f32, x1: f32, y1: f32, x2: f32, y2: f32, w: f32) -> Flatness
-    ensures { λ r. ⌜ r ≡ closenessOf (conicAt x0 y0 x1 y1 x2 y2 w) ⌝ }
+// at each call. There is no branch, so that both halves of a conic are compared side by side.
+pub fn closeness(x0: f32, y0: f32, x1: f32, y1: f32, x2: f32, y2: f32, w: f32) -> BySquares
+    ensures { λ r. ⌜ (r .flat ≡ surelyNear (conicAt x0 y0 x1 y1 x2 y2 w)) × (r .curved ≡ surelyFar (conicAt x0 y0 x1 y1 x2 y2 w)) ⌝ }
 {
     let c = Conic {
         from: Point { x: x0, y: y0 },
@@ -110,29 +116,27 @@ pub fn closeness(x0: f32, y0: f32, x1: f32, y1: f32, x2: f32, y2: f32, w: f32) -
     };
     let chord = geometry::length_squared(geometry::sub(c.to, c.from));
     let distance = geometry::length_squared(geometry::sub(conic_mid(c), quad_mid(c)));
-    if 1e-30 < chord {
-        if distance <= 9.99998e-7 * chord {
-            if 0.0 <= distance {
-                return Flatness::Flat;
-            }
-            return Flatness::Unsure;
-        }
-        if 1.000002e-6 * chord < distance {
-            return Flatness::Curved;
-        }
-        return Flatness::Unsure;
+    BySquares {
+        flat: (1e-30 < chord) & (distance <= 9.99998e-7 * chord) & (0.0 <= distance),
+        curved: (1e-30 < chord) & (1.000002e-6 * chord < distance),
     }
-    Flatness::Unsure
 }
 
-// The same of any conic.
+// The same of any conic, as one answer.
 pub fn flatness_by_squares(x0: f32, y0: f32, x1: f32, y1: f32, x2: f32, y2: f32, w: f32) -> Flatness
     ensures { λ r. ⌜ r ≡ flatnessOf (conicAt x0 y0 x1 y1 x2 y2 w) ⌝ }
 {
     if is_near_one(w) {
         return Flatness::Flat;
     }
-    closeness(x0, y0, x1, y1, x2, y2, w)
+    let by_squares = closeness(x0, y0, x1, y1, x2, y2, w);
+    if by_squares.flat {
+        return Flatness::Flat;
+    }
+    if by_squares.curved {
+        return Flatness::Curved;
+    }
+    Flatness::Unsure
 }
 
 // Whether the middles of the conic and of the quad are near each other, measured by a chord above 0.
@@ -152,7 +156,7 @@ pub fn is_near(x0: f32, y0: f32, x1: f32, y1: f32, x2: f32, y2: f32, w: f32) -> 
     false
 }
 
-// The same as one answer: the roots are taken where they are needed.
+// Whether one quad is near enough to a conic: the roots are taken where they are needed.
 fn is_flat(x0: f32, y0: f32, x1: f32, y1: f32, x2: f32, y2: f32, w: f32) -> bool
     ensures { λ r. ⌜ r ≡ flatOf (conicAt x0 y0 x1 y1 x2 y2 w) ⌝ }
 {

@@ -1,19 +1,19 @@
 -- What the code that writes a conic has where it writes one quad, and where it writes both halves.
 use mathlib.Core.Path.{_≡_, refl, sym, ap, ap₂, _∙_}
 use mathlib.Core.List.{List, [], _∷_, _++_}
-use mathlib.Core.Bool.{Bool, true, false, cond}
+use mathlib.Core.Bool.{Bool, true, false, cond, _&&_, _||_, true≢false}
 use Prim.Native.Nat.{ℕ, zero, suc, _+_, _-_, _*_, _%_, _^_, _≤_, _<_}
 use native.Mathlib.Nat.{one-mul}
 use native.Mathlib.Omega.{arith}
 use lib.ListN.{length, set, replicate, length-append}
 use lib.Seq.{sets-eq}
 use lib.Pow.{shl-exact}
-use lib.Dec.{lit<}
+use lib.Dec.{lit<, eqb}
 use lib.Ieee.{Float}
 use Rattle.geometry.specs.declared.Point.{Point}
 use Rattle.conic.specs.declared.Conic.{Conic}
-use Rattle.conic.specs.Conic.{nearOneOf, Halves, flatOf, splitOf}
-use Rattle.conic.proofs.Flat.{flat-one}
+use Rattle.conic.specs.Conic.{nearOneOf, Halves, flatOf, surelyNear, splitOf}
+use Rattle.conic.proofs.Flat.{flat-one, near-flat}
 use Rattle.conic.specs.Halving.{Piece, pieceOf, halve, piecesOf, countOf, wordOf}
 use Rattle.conic.proofs.Halving.{halve-none, halve-flat, halve-split, word-append}
 use Rattle.conic.proofs.Whole.{halve-ends}
@@ -174,6 +174,24 @@ not-deeper false e d z = omega arith
 pub deep-not-near : (b : Bool) (e d : ℕ) → e ≡ cond b 0 d → 0 < e → b ≡ false
 deep-not-near true e d z h = absurd (omega arith)
 deep-not-near false e d z h = refl
+
+-- halves that are not halved any more, or of which both are flat
+pub either-flat : (z p q : Bool) → (z || (p && q)) ≡ true → ((z || p) ≡ true) × ((z || q) ≡ true)
+either-flat true p q h = (refl, refl)
+either-flat false true true h = (h, h)
+either-flat false true false h = absurd (true≢false (sym h))
+either-flat false false q h = absurd (true≢false (sym h))
+
+pub not-none : (e : ℕ) (q : Bool) → (eqb e 0 || q) ≡ false → 0 < e
+not-none zero q h = absurd (true≢false h)
+not-none (suc e) q h = omega arith
+
+pub single : (near z f : Bool) (e d : ℕ) (c : Conic) (start : ℕ) → nearOneOf (c .weight) ≡ near → e ≡ cond near 0 d → (z ≡ true → e ≡ 0) → f ≡ surelyNear c → (z || f) ≡ true
+    → OneQuad (halve d c start) c start
+single true z f e d c start w k n s h = one-quad _ c start _ (halve-flat d c start (flat-one c w))
+single false true f e d c start w k n s h = one-quad _ c start _ (halve-none d c start (sym k ∙ n refl))
+single false false true e d c start w k n s h = one-quad _ c start _ (halve-flat d c start (near-flat c w (sym s)))
+single false false false e d c start w k n s h = absurd (true≢false (sym h))
 
 -- ---- a whole conic
 

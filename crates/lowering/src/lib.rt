@@ -6,7 +6,7 @@ ghost use mathlib.Core.List.{_∷_, []};
 ghost use Prim.Native.Nat.{_+_, _*_, _^_, _<_, _≤_};
 ghost use lib.ListN.{length, drop, getD, set, replicate};
 ghost use lib.Ieee.{nan};
-ghost use Rattle.conic.specs.Conic.{conicAt, distanceOf, chordOf, nearOneOf, nearOf, flatOf, flatnessOf, halfWeightOf};
+ghost use Rattle.conic.specs.Conic.{conicAt, distanceOf, chordOf, nearOneOf, nearOf, flatOf, surelyNear, surelyFar, flatnessOf, halfWeightOf};
 ghost use Rattle.conic.specs.Halving.{halve, wordOf, piecesOf, countOf};
 ghost use Rattle.stream.specs.Stream.{put, allFloats, state, push, pushAll, Fits};
 ghost use Rattle.lowering.specs.Entries.{elementsOf, quadsOf, loweredOf, jointWord, builderAt};
@@ -103,9 +103,9 @@ fn depth_of_halves(d: usize, u: f32) -> usize
     d
 }
 
-// The quads of a conic, their points from point `at` on, and the bits where they start. Each split calls it for
-// both halves, with the depth still allowed falling from 6. Splits and doubtful cases have functions of their
-// own, so that the commonest case, one quad, saves no registers.
+// The quads of a conic whose weight is not near 1, their points from point `at` on, and the bits where they start,
+// by what the squared lengths tell of it. Each split calls it for both halves, with the depth still allowed falling
+// from 6.
 fn push_conic(
     points: &mut [f32],
     memo: &mut [f32; 6],
@@ -120,20 +120,20 @@ fn push_conic(
     w: f32,
     depth: usize,
     start: usize,
+    flat: bool,
+    curved: bool,
 )
-    requires { ⌜ (depth ≤ 6) × (start + 2 ^ depth ≤ 64) × HasRoom (halve depth (conicAt x0 y0 x1 y1 x2 y2 w) start) (now points) (now at) (now word) × Remembers depth w (now memo) × (0 < depth → nearOneOf w ≡ false) ⌝ }
+    requires { ⌜ (0 < depth) × (nearOneOf w ≡ false) × (flat ≡ surelyNear (conicAt x0 y0 x1 y1 x2 y2 w)) × (curved ≡ surelyFar (conicAt x0 y0 x1 y1 x2 y2 w)) × (depth ≤ 6) × (start + 2 ^ depth ≤ 64) × HasRoom (halve depth (conicAt x0 y0 x1 y1 x2 y2 w) start) (now points) (now at) (now word) × Remembers depth w (now memo) ⌝ }
     ensures { λ _. ⌜ now (points .exit) ≡ put (now (points .entry)) (2 * now (at .entry)) (allFloats (quadsOf (halve depth (conicAt x0 y0 x1 y1 x2 y2 w) start))) ⌝ }
     ensures { λ _. ⌜ (now (at .exit) ≡ now (at .entry) + 2 * length (halve depth (conicAt x0 y0 x1 y1 x2 y2 w) start)) × (now (word .exit) ≡ now (word .entry) + wordOf (halve depth (conicAt x0 y0 x1 y1 x2 y2 w) start)) ⌝ }
     ensures { λ _. ⌜ Remembers depth w (now (memo .exit)) × (drop depth (now (memo .exit)) ≡ drop depth (now (memo .entry))) ⌝ }
 {
-    if depth == 0 {
+    if flat {
         put_quad(points, at, word, x1, y1, x2, y2, start);
         return;
     }
-    let f = conic::closeness(x0, y0, x1, y1, x2, y2, w);
-    match f {
-        Flatness::Flat => put_quad(points, at, word, x1, y1, x2, y2, start),
-        Flatness::Curved => push_halves(
+    if curved {
+        push_halves(
             points,
             memo,
             at,
@@ -147,23 +147,24 @@ fn push_conic(
             w,
             depth,
             start,
-        ),
-        Flatness::Unsure => push_unsure(
-            points,
-            memo,
-            at,
-            word,
-            x0,
-            y0,
-            x1,
-            y1,
-            x2,
-            y2,
-            w,
-            depth,
-            start,
-        ),
+        );
+        return;
     }
+    push_unsure(
+        points,
+        memo,
+        at,
+        word,
+        x0,
+        y0,
+        x1,
+        y1,
+        x2,
+        y2,
+        w,
+        depth,
+        start,
+    );
 }
 
 // The same of a conic of which only roots can tell whether it is flat.
@@ -208,7 +209,8 @@ fn push_unsure(
     );
 }
 
-// The same of a conic that is not flat.
+// The same of a conic that is not flat. Both halves are compared before anything is decided, so that the one need not
+// wait for the other; most often both are flat.
 fn push_halves(
     points: &mut [f32],
     memo: &mut [f32; 6],
@@ -236,6 +238,14 @@ fn push_halves(
     let b = h.right_ctrl;
     let u = weight_of_halves(memo, d, w);
     let e = depth_of_halves(d, u);
+    let next = start + (1 << d);
+    let l = conic::closeness(x0, y0, a.x, a.y, m.x, m.y, u);
+    let r = conic::closeness(m.x, m.y, b.x, b.y, x2, y2, u);
+    if (e == 0) | (l.flat & r.flat) {
+        put_quad(points, at, word, a.x, a.y, m.x, m.y, start);
+        put_quad(points, at, word, b.x, b.y, x2, y2, next);
+        return;
+    }
     push_conic(
         points,
         memo,
@@ -250,8 +260,9 @@ fn push_halves(
         u,
         e,
         start,
+        l.flat,
+        l.curved,
     );
-    let next = start + (1 << d);
     push_conic(
         points,
         memo,
@@ -266,6 +277,8 @@ fn push_halves(
         u,
         e,
         next,
+        r.flat,
+        r.curved,
     );
 }
 

@@ -1,4 +1,4 @@
-use Rattle.conic.specs.Conic.{closenessOf}
+use Rattle.conic.specs.Conic.{surelyNear, surelyFar}
 use borrow.Author.Needs.{needs}
 use Rattle.conic.proofs.closeness.Statement.{statement}
 use Rattle.conic.proofs.closeness.Tie as tie
@@ -22,24 +22,8 @@ length-squared-requires-2 : tie.Need-length-squared-requires-2
 length-squared-requires-2 c κs = search needs
 
 returns : tie.Need-returns
-unfolding closenessOf
-returns c = rw (← c .before .before .before .before .before .before .before .before .sub .ensures, ← c .before .before .before .before .before .before .before .length-squared .ensures, ← c .before .before .before .before .before .before .conic-mid .ensures, ← c .before .before .before .before .before .quad-mid .ensures, ← c .before .before .before .before .sub2 .ensures, ← c .before .before .before .length-squared2 .ensures, c .before .before .if1 .taken, c .before .if2 .taken, c .if3 .taken)
-
-returns-2 : tie.Need-returns-2
-unfolding closenessOf
-returns-2 c = rw (← c .before .before .before .before .before .before .before .before .sub .ensures, ← c .before .before .before .before .before .before .before .length-squared .ensures, ← c .before .before .before .before .before .before .conic-mid .ensures, ← c .before .before .before .before .before .quad-mid .ensures, ← c .before .before .before .before .sub2 .ensures, ← c .before .before .before .length-squared2 .ensures, c .before .before .if1 .taken, c .before .if2 .taken, c .if3 .left)
-
-returns-3 : tie.Need-returns-3
-unfolding closenessOf
-returns-3 c = rw (← c .before .before .before .before .before .before .before .before .sub .ensures, ← c .before .before .before .before .before .before .before .length-squared .ensures, ← c .before .before .before .before .before .before .conic-mid .ensures, ← c .before .before .before .before .before .quad-mid .ensures, ← c .before .before .before .before .sub2 .ensures, ← c .before .before .before .length-squared2 .ensures, c .before .before .if1 .taken, c .before .if2 .left, c .if4 .taken)
-
-returns-4 : tie.Need-returns-4
-unfolding closenessOf
-returns-4 c = rw (← c .before .before .before .before .before .before .before .before .sub .ensures, ← c .before .before .before .before .before .before .before .length-squared .ensures, ← c .before .before .before .before .before .before .conic-mid .ensures, ← c .before .before .before .before .before .quad-mid .ensures, ← c .before .before .before .before .sub2 .ensures, ← c .before .before .before .length-squared2 .ensures, c .before .before .if1 .taken, c .before .if2 .left, c .if4 .left)
-
-returns-5 : tie.Need-returns-5
-unfolding closenessOf
-returns-5 c = rw (← c .before .before .before .before .before .before .sub .ensures, ← c .before .before .before .before .before .length-squared .ensures, ← c .before .before .before .before .conic-mid .ensures, ← c .before .before .before .quad-mid .ensures, ← c .before .before .sub2 .ensures, ← c .before .length-squared2 .ensures, c .if1 .left)
+unfolding surelyNear surelyFar
+returns c = (rw (← c .before .before .before .before .before .sub .ensures, ← c .before .before .before .before .length-squared .ensures, ← c .before .before .before .conic-mid .ensures, ← c .before .before .quad-mid .ensures, ← c .before .sub2 .ensures, ← c .length-squared2 .ensures), rw (← c .before .before .before .before .before .sub .ensures, ← c .before .before .before .before .length-squared .ensures, ← c .before .before .before .conic-mid .ensures, ← c .before .before .quad-mid .ensures, ← c .before .sub2 .ensures, ← c .length-squared2 .ensures))
 
 pub closeness-spec : {M : Type 1} → statement M
 closeness-spec =
@@ -51,8 +35,4 @@ closeness-spec =
     quad-mid-requires
     sub-requires-2
     length-squared-requires-2
-    returns
-    returns-2
-    returns-3
-    returns-4
-    returns-5)
+    returns)

@@ -2,19 +2,20 @@
 -- halved once less. Assumes nothing.
 use mathlib.Core.Path.{_≡_, refl, sym, ap, subst, _∙_}
 use mathlib.Core.List.{List}
+use mathlib.Core.Bool.{true, false}
 use Prim.Native.Nat.{ℕ, _+_, _-_, _*_, _%_, _^_, _<_, _≤_}
 use native.Mathlib.Omega.{arith}
 use lib.ListN.{length}
+use lib.Dec.{T, eqb, eqb→eq}
 use lib.Pow.{pow-pos, pow-mono}
 use borrow.Author.Needs.{needs}
 use borrow.Fn.Kinds.{In}
 use borrow.Fn.PlainCycle.{Measures, is, falls, and}
-use Rattle.conic.specs.declared.Flatness.the-variants.{Flat, Curved, Unsure}
 use Rattle.conic.specs.Conic.{conicAt, nearOneOf, halvesOf}
 use Rattle.conic.specs.Halving.{Piece, halve, wordOf}
-use Rattle.conic.proofs.Flat.{closeness-tells}
-use Rattle.conic.proofs.Halving.{halve-none, halve-flat, half-span}
-use Rattle.lowering.proofs.Writing.{one-quad, bit, BothHalves, both-halves, Wrote, one-wrote, both-wrote, same-quads, same-wrote, not-deeper, deep-not-near}
+use Rattle.conic.proofs.Flat.{flat-else, near-flat, far-curved}
+use Rattle.conic.proofs.Halving.{halve-flat, half-span}
+use Rattle.lowering.proofs.Writing.{OneQuad, one-quad, bit, BothHalves, both-halves, Wrote, one-wrote, both-wrote, same-quads, same-wrote, not-deeper, deep-not-near, not-none, either-flat, single}
 use Rattle.lowering.proofs.Memo.{first-known, first-half, both-known, known-shallow, known-after}
 use Rattle.lowering.proofs.push_conic.Reads as push-conic
 use Rattle.lowering.proofs.push_conic.Kinds as conic-kinds
@@ -64,10 +65,10 @@ module _ (t : ℕ) where
   unsure-below = and 4 unsure-kinds.ps (falls 4 unsure-kinds.ps _<_ μ-unsure t) push-unsure.Pre
 
   abbrev conic-claims : conic-lts.Claims
-  conic-claims = (put-quad-reads.Asked, put-quad-reads.Learnt, closeness-reads.Asked, closeness-reads.Learnt, halves-below, push-halves.Post, unsure-below, push-unsure.Post)
+  conic-claims = (put-quad-reads.Asked, put-quad-reads.Learnt, halves-below, push-halves.Post, unsure-below, push-unsure.Post)
 
   abbrev halves-claims : halves-lts.Claims
-  halves-claims = (subdivide-reads.Asked, subdivide-reads.Learnt, weight-reads.Asked, weight-reads.Learnt, depth-reads.Asked, depth-reads.Learnt, conic-below, push-conic.Post)
+  halves-claims = (subdivide-reads.Asked, subdivide-reads.Learnt, weight-reads.Asked, weight-reads.Learnt, depth-reads.Asked, depth-reads.Learnt, closeness-reads.Asked, closeness-reads.Learnt, put-quad-reads.Asked, put-quad-reads.Learnt, conic-below, push-conic.Post)
 
   abbrev unsure-claims : unsure-lts.Claims
   unsure-claims = (is-near-reads.Asked, is-near-reads.Learnt, put-quad-reads.Asked, put-quad-reads.Learnt, halves-below, push-halves.Post)
@@ -75,10 +76,10 @@ module _ (t : ℕ) where
   conic-put-quad-requires : conic-lts.Need-put-quad-requires conic-claims conic-at push-conic.Post
   conic-put-quad-requires c κs =
       let a = c .before .before .before .before .before .args in
-      let k = conicAt (a .x0) (a .y0) (a .x1) (a .y1) (a .x2) (a .y2) (a .w) in
-      let h = one-quad _ k (a .start) _ (halve-none (a .depth) k (a .start) (c .before .before .before .if1 .taken)) in
       let s = c .before .before .before .before .before .pre .1 in
-      (omega (arith, s .1, pow-pos (a .depth)), omega (arith, h .many, s .2 .0), omega (arith, h .word, s .2 .1))
+      let k = conicAt (a .x0) (a .y0) (a .x1) (a .y1) (a .x2) (a .y2) (a .w) in
+      let h = one-quad _ k (a .start) _ (halve-flat (a .depth) k (a .start) (near-flat k (s .1) (sym (s .2) ∙ c .before .before .before .if1 .taken))) in
+      (omega (arith, s .5, pow-pos (a .depth)), omega (arith, h .many, s .6 .0), omega (arith, h .word, s .6 .1))
 
   conic-same-length : conic-lts.Need-same-length conic-claims conic-at push-conic.Post
   conic-same-length c = search needs
@@ -86,71 +87,37 @@ module _ (t : ℕ) where
   conic-returns : conic-lts.Need-returns conic-claims conic-at push-conic.Post
   conic-returns c =
       let a = c .before .before .before .before .before .before .before .before .args in
+      let s = c .before .before .before .before .before .before .before .before .pre .1 in
       let k = conicAt (a .x0) (a .y0) (a .x1) (a .y1) (a .x2) (a .y2) (a .w) in
-      let h = one-quad _ k (a .start) _ (halve-none (a .depth) k (a .start) (c .before .before .before .before .before .before .if1 .taken)) in
+      let h = one-quad _ k (a .start) _ (halve-flat (a .depth) k (a .start) (near-flat k (s .1) (sym (s .2) ∙ c .before .before .before .before .before .before .if1 .taken))) in
       let e = c .before .before .put-quad .ensures in
       let r = one-wrote _ k (a .start) h (e .0) (e .1 .0) (e .1 .1) in
-      (r .points, ((r .end, r .bits), (c .before .before .before .before .before .before .before .before .pre .1 .3, refl)))
-
-  conic-closeness-requires : conic-lts.Need-closeness-requires conic-claims conic-at push-conic.Post
-  conic-closeness-requires c κs = search needs
-
-  conic-enum-told : conic-lts.Need-enum-told conic-claims conic-at push-conic.Post
-  conic-enum-told c = search needs
-
-  conic-put-quad-requires-2 : conic-lts.Need-put-quad-requires-2 conic-claims conic-at push-conic.Post
-  conic-put-quad-requires-2 c κs =
-      let a = c .before .before .before .before .before .before .before .before .args in
-      let k = conicAt (a .x0) (a .y0) (a .x1) (a .y1) (a .x2) (a .y2) (a .w) in
-      let h = one-quad _ k (a .start) _ (halve-flat (a .depth) k (a .start) (closeness-tells k Flat (c .before .before .before .before .before .before .before .before .pre .1 .4 (omega (arith, c .before .before .before .before .before .before .if1 .left))) (sym (c .before .before .before .before .before .closeness .ensures) ∙ c .before .before .before .enum-told .given .1))) in
-      let s = c .before .before .before .before .before .before .before .before .pre .1 in
-      (omega (arith, s .1, pow-pos (a .depth)), omega (arith, h .many, s .2 .0), omega (arith, h .word, s .2 .1))
-
-  conic-enum-told-2 : conic-lts.Need-enum-told-2 conic-claims conic-at push-conic.Post
-  conic-enum-told-2 c = search needs
+      (r .points, ((r .end, r .bits), (s .7, refl)))
 
   conic-push-halves-requires : conic-lts.Need-push-halves-requires conic-claims conic-at push-conic.Post
   conic-push-halves-requires c κs =
-      let a = c .before .before .before .before .before .before .before .before .before .args in
-      let s = c .before .before .before .before .before .before .before .before .before .pre in
-      let deep : 0 < a .depth = omega (arith, c .before .before .before .before .before .before .before .if1 .left) in
-      let flat = closeness-tells (conicAt (a .x0) (a .y0) (a .x1) (a .y1) (a .x2) (a .y2) (a .w)) Curved (s .1 .4 deep) (sym (c .before .before .before .before .before .before .closeness .ensures) ∙ c .before .before .before .before .enum-told2 .given .1) in
-      (omega (arith, s .0), (deep, flat, s .1 .0, s .1 .1, s .1 .2, s .1 .3))
-
-  conic-enum-told-3 : conic-lts.Need-enum-told-3 conic-claims conic-at push-conic.Post
-  conic-enum-told-3 c = search needs
-
-  conic-push-unsure-requires : conic-lts.Need-push-unsure-requires conic-claims conic-at push-conic.Post
-  conic-push-unsure-requires c κs =
-      let a = c .before .before .before .before .before .before .before .before .before .args in
-      let s = c .before .before .before .before .before .before .before .before .before .pre in
-      let deep : 0 < a .depth = omega (arith, c .before .before .before .before .before .before .before .if1 .left) in
-      let unsure = closeness-tells (conicAt (a .x0) (a .y0) (a .x1) (a .y1) (a .x2) (a .y2) (a .w)) Unsure (s .1 .4 deep) (sym (c .before .before .before .before .before .before .closeness .ensures) ∙ c .before .before .before .before .enum-told3 .given .1) in
-      (omega (arith, s .0), (deep, unsure, s .1 .0, s .1 .1, s .1 .2, s .1 .3))
+      let a = c .before .before .before .before .before .before .before .args in
+      let s = c .before .before .before .before .before .before .before .pre in
+      let flat = far-curved (conicAt (a .x0) (a .y0) (a .x1) (a .y1) (a .x2) (a .y2) (a .w)) (s .1 .1) (sym (s .1 .3) ∙ c .before .before .before .before .if2 .taken) in
+      (omega (arith, s .0), (s .1 .0, flat, s .1 .4, s .1 .5, s .1 .6, s .1 .7))
 
   conic-same-length-2 : conic-lts.Need-same-length-2 conic-claims conic-at push-conic.Post
   conic-same-length-2 c = search needs
 
   conic-returns-2 : conic-lts.Need-returns-2 conic-claims conic-at push-conic.Post
-  conic-returns-2 c =
-      let a = c .before .before .before .before .before .before .before .before .before .before .before .args in
-      let k = conicAt (a .x0) (a .y0) (a .x1) (a .y1) (a .x2) (a .y2) (a .w) in
-      let h = one-quad _ k (a .start) _ (halve-flat (a .depth) k (a .start) (closeness-tells k Flat (c .before .before .before .before .before .before .before .before .before .before .before .pre .1 .4 (omega (arith, c .before .before .before .before .before .before .before .before .before .if1 .left))) (sym (c .before .before .before .before .before .before .before .before .closeness .ensures) ∙ c .before .before .before .before .before .before .enum-told .given .1))) in
-      let e = c .before .before .put-quad2 .ensures in
-      let r = one-wrote _ k (a .start) h (e .0) (e .1 .0) (e .1 .1) in
-      (r .points, ((r .end, r .bits), (c .before .before .before .before .before .before .before .before .before .before .before .pre .1 .3, refl)))
+  conic-returns-2 c = c .before .before .push-halves .ensures
+
+  conic-push-unsure-requires : conic-lts.Need-push-unsure-requires conic-claims conic-at push-conic.Post
+  conic-push-unsure-requires c κs =
+      let a = c .before .before .before .before .before .before .before .args in
+      let s = c .before .before .before .before .before .before .before .pre in
+      (omega (arith, s .0), (s .1 .0, flat-else (conicAt (a .x0) (a .y0) (a .x1) (a .y1) (a .x2) (a .y2) (a .w)) (s .1 .1), s .1 .4, s .1 .5, s .1 .6, s .1 .7))
 
   conic-same-length-3 : conic-lts.Need-same-length-3 conic-claims conic-at push-conic.Post
   conic-same-length-3 c = search needs
 
   conic-returns-3 : conic-lts.Need-returns-3 conic-claims conic-at push-conic.Post
-  conic-returns-3 c = c .before .before .push-halves .ensures
-
-  conic-same-length-4 : conic-lts.Need-same-length-4 conic-claims conic-at push-conic.Post
-  conic-same-length-4 c = search needs
-
-  conic-returns-4 : conic-lts.Need-returns-4 conic-claims conic-at push-conic.Post
-  conic-returns-4 c = c .before .before .push-unsure .ensures
+  conic-returns-3 c = c .before .before .push-unsure .ensures
 
   halves-sub-d : halves-lts.Need-sub-d halves-claims halves-at push-halves.Post
   halves-sub-d c = c .before .pre .1 .0
@@ -184,50 +151,150 @@ module _ (t : ℕ) where
   halves-depth-of-halves-requires : halves-lts.Need-depth-of-halves-requires halves-claims halves-at push-halves.Post
   halves-depth-of-halves-requires c κs = search needs
 
+  halves-shl-next : halves-lts.Need-shl-next halves-claims halves-at push-halves.Post
+  halves-shl-next c = omega (arith, c .before .before .before .before .before .before .before .before .pre .1 .2)
+
+  halves-add-next : halves-lts.Need-add-next halves-claims halves-at push-halves.Post
+  halves-add-next c =
+      let s = c .before .before .before .before .before .before .before .before .pre .1 in
+      let a = c .before .before .before .before .before .before .before .before .args in
+      let e = half (c .before) in
+      let span = half-span (a .depth) (λ e. omega (arith, s .0, e)) in
+      omega (arith, s .3, span, e)
+
+  halves-closeness-requires : halves-lts.Need-closeness-requires halves-claims halves-at push-halves.Post
+  halves-closeness-requires c κs = search needs
+
+  halves-closeness-requires-2 : halves-lts.Need-closeness-requires-2 halves-claims halves-at push-halves.Post
+  halves-closeness-requires-2 c κs = search needs
+
+  -- where neither half is halved: each is one quad
+  singles : (c : halves-lts.Then1 halves-claims halves-at push-halves.Post)
+      → let w = c .before .before .before .before .before .before in
+      let a = w .before .before .before .before .before .before .before .args in
+      let u = w .weight-of-halves in
+      let h = halvesOf (conicAt (a .x0) (a .y0) (a .x1) (a .y1) (a .x2) (a .y2) (a .w)) (w .before .before .before .before .before .subdivide .result) (u .result) in
+      let next = a .start + (1 * 2 ^ (a .depth - 1)) % 2 ^ 64 in
+      OneQuad (halve (a .depth - 1) (h .left) (a .start)) (h .left) (a .start) × OneQuad (halve (a .depth - 1) (h .right) next) (h .right) next
+  singles c =
+      let v = c .before .before .before .before .before in
+      let w = v .before in
+      let a = w .before .before .before .before .before .before .before .args in
+      let s = w .before .before .before .before .before .before .before .pre in
+      let d = a .depth - 1 in
+      let u = w .weight-of-halves in
+      let e = v .depth-of-halves .result in
+      let z = v .depth-of-halves .ensures in
+      let near = nearOneOf (u .result) in
+      let h = halvesOf (conicAt (a .x0) (a .y0) (a .x1) (a .y1) (a .x2) (a .y2) (a .w)) (w .before .before .before .before .before .subdivide .result) (u .result) in
+      let l = c .before .before .before .before .closeness in
+      let r = c .before .before .before .closeness2 in
+      let f = either-flat (eqb e 0) (l .result .flat) (r .result .flat) (c .if1 .taken) in
+      let none : eqb e 0 ≡ true → e ≡ 0 = λ q. eqb→eq e 0 (subst T (sym q) tt) in
+      (single near (eqb e 0) _ e d (h .left) (a .start) refl z none (l .ensures .0) (f .0), single near (eqb e 0) _ e d (h .right) (a .start + (1 * 2 ^ d) % 2 ^ 64) refl z none (r .ensures .0) (f .1))
+
+  halves-put-quad-requires : halves-lts.Need-put-quad-requires halves-claims halves-at push-halves.Post
+  halves-put-quad-requires c κs =
+      let v = c .before .before .before .before .before .before .before .before in
+      let w = v .before in
+      let a = w .before .before .before .before .before .before .before .args in
+      let s = w .before .before .before .before .before .before .before .pre in
+      let b = both w in
+      let d = a .depth - 1 in
+      let u = w .weight-of-halves in
+      let one = singles (c .before .before .before) in
+      (omega (arith, s .1 .3, pow-pos (a .depth)), omega (arith, s .1 .4 .0, b .many, one .0 .many), omega (arith, s .1 .4 .1, b .word, one .0 .word))
+
+  halves-put-quad-requires-2 : halves-lts.Need-put-quad-requires-2 halves-claims halves-at push-halves.Post
+  halves-put-quad-requires-2 c κs =
+      let v = c .before .before .before .before .before .before .before .before .before .before .before .before .before .before in
+      let w = v .before in
+      let a = w .before .before .before .before .before .before .before .args in
+      let s = w .before .before .before .before .before .before .before .pre in
+      let b = both w in
+      let d = a .depth - 1 in
+      let u = w .weight-of-halves in
+      let h = halvesOf (conicAt (a .x0) (a .y0) (a .x1) (a .y1) (a .x2) (a .y2) (a .w)) (w .before .before .before .before .before .subdivide .result) (u .result) in
+      let one = singles (c .before .before .before .before .before .before .before .before .before) in
+      let first = c .before .before .before .before .before .put-quad in
+      let span = half-span (a .depth) (λ i. omega (arith, s .1 .0, i)) in
+      let r : ℕ → List Piece = λ i. halve d (h .right) (a .start + i) in
+      let n = ap (λ (i : ℕ). length (r i)) (half w) in
+      let m = ap (λ (i : ℕ). wordOf (r i)) (half w) in
+      (omega (arith, s .1 .3, span, half w, pow-pos d), omega (arith, s .1 .4 .0, b .many, n, one .0 .many, one .1 .many, first .ensures .1 .0, first .kept), omega (arith, s .1 .4 .1, b .word, m, one .0 .word, one .1 .word, first .ensures .1 .1))
+
+  halves-same-length : halves-lts.Need-same-length halves-claims halves-at push-halves.Post
+  halves-same-length c = search needs
+
+  halves-returns : halves-lts.Need-returns halves-claims halves-at push-halves.Post
+  halves-returns c =
+      let v = c .before .before .before .before .before .before .before .before .before .before .before .before .before .before .before .before .before in
+      let w = v .before in
+      let a = w .before .before .before .before .before .before .before .args in
+      let s = w .before .before .before .before .before .before .before .pre in
+      let b = both w in
+      let d = a .depth - 1 in
+      let u = w .weight-of-halves in
+      let h = halvesOf (conicAt (a .x0) (a .y0) (a .x1) (a .y1) (a .x2) (a .y2) (a .w)) (w .before .before .before .before .before .subdivide .result) (u .result) in
+      let k = conicAt (a .x0) (a .y0) (a .x1) (a .y1) (a .x2) (a .y2) (a .w) in
+      let one = singles (c .before .before .before .before .before .before .before .before .before .before .before .before) in
+      let first = c .before .before .before .before .before .before .before .before .put-quad in
+      let second = c .before .before .put-quad2 in
+      let l = halve d (h .left) (a .start) in
+      let r : ℕ → List Piece = λ i. halve d (h .right) (a .start + i) in
+      let x : Wrote l (a .points .now) (first .last .0) (a .at .now) (first .last .1 .0) (a .word .now) (first .last .1 .1 .0) = one-wrote l (h .left) (a .start) (one .0) (first .ensures .0) (first .ensures .1 .0) (first .ensures .1 .1) in
+      let after : ℕ → Type 0 = λ i. Wrote (r i) (first .last .0) (second .last .0) (first .last .1 .0) (second .last .1 .0) (first .last .1 .1 .0) (second .last .1 .1 .0) in
+      let y : after (2 ^ d) = subst after (half w) (one-wrote _ (h .right) _ (one .1) (second .ensures .0) (second .ensures .1 .0) (second .ensures .1 .1)) in
+      let both-halves-wrote = both-wrote (halve (a .depth) k (a .start)) l (r (2 ^ d)) (omega (arith, s .1 .4 .0)) b x y in
+      let known = first-half (a .depth) (a .w) _ (a .memo .now) _ (s .1 .0) (s .1 .5) (u .ensures .0) (u .ensures .1) in
+      let m = both-known (a .depth) (a .w) _ (a .memo .now) _ _ (s .1 .0) (s .1 .2) (s .1 .5) (u .ensures .0) (u .ensures .1) known refl in
+      (both-halves-wrote .points, ((both-halves-wrote .end, both-halves-wrote .bits), (m .known, m .past)))
+
+  -- where a half may be halved: its weight is not near 1
+  deeper : (c : halves-lts.Else1 halves-claims halves-at push-halves.Post)
+      → let v = c .before .before .before .before .before in
+      (0 < v .depth-of-halves .result) × (nearOneOf (v .before .weight-of-halves .result) ≡ false)
+  deeper c =
+      let v = c .before .before .before .before .before in
+      let e = v .depth-of-halves .result in
+      let some : 0 < e = not-none e _ (c .if1 .left) in
+      (some, deep-not-near (nearOneOf (v .before .weight-of-halves .result)) e _ (v .depth-of-halves .ensures) some)
+
   halves-push-conic-requires : halves-lts.Need-push-conic-requires halves-claims halves-at push-halves.Post
   halves-push-conic-requires c κs =
-      let a = c .before .before .before .before .before .before .before .before .before .before .before .before .args in
-      let s = c .before .before .before .before .before .before .before .before .before .before .before .before .pre in
-      let v = c .before .before .before .before in
+      let v = c .before .before .before .before .before .before .before .before .before in
       let w = v .before in
+      let a = w .before .before .before .before .before .before .before .args in
+      let s = w .before .before .before .before .before .before .before .pre in
       let b = both w in
       let d = a .depth - 1 in
       let u = w .weight-of-halves in
       let e = v .depth-of-halves .result in
       let z = v .depth-of-halves .ensures in
       let near = nearOneOf (u .result) in
-      let h = halvesOf (conicAt (a .x0) (a .y0) (a .x1) (a .y1) (a .x2) (a .y2) (a .w)) (c .before .before .before .before .before .before .before .before .before .before .subdivide .result) (u .result) in
+      let h = halvesOf (conicAt (a .x0) (a .y0) (a .x1) (a .y1) (a .x2) (a .y2) (a .w)) (w .before .before .before .before .before .subdivide .result) (u .result) in
       let shallow = not-deeper near e d z in
       let span = half-span (a .depth) (λ e. omega (arith, s .1 .0, e)) in
       let power : 2 ^ e ≤ 2 ^ d = pow-mono shallow in
       let same = same-quads near e d (h .left) (a .start) refl z in
       let known = first-half (a .depth) (a .w) _ (a .memo .now) _ (s .1 .0) (s .1 .5) (u .ensures .0) (u .ensures .1) in
-      (omega (arith, s .0, s .1 .0), (omega (arith, s .1 .2), omega (arith, s .1 .3, span), (omega (arith, s .1 .4 .0, b .many, same .many), omega (arith, s .1 .4 .1, b .word, same .word)), known-shallow near e d _ _ z known, deep-not-near near e d z))
-
-  halves-shl-next : halves-lts.Need-shl-next halves-claims halves-at push-halves.Post
-  halves-shl-next c = omega (arith, c .before .before .before .before .before .before .before .before .before .before .before .before .before .before .before .pre .1 .2)
-
-  halves-add-next : halves-lts.Need-add-next halves-claims halves-at push-halves.Post
-  halves-add-next c =
-      let s = c .before .before .before .before .before .before .before .before .before .before .before .before .before .before .before .pre .1 in
-      let a = c .before .before .before .before .before .before .before .before .before .before .before .before .before .before .before .args in
-      let e = half (c .before .before .before .before .before .before .before .before) in
-      let span = half-span (a .depth) (λ e. omega (arith, s .0, e)) in
-      omega (arith, s .3, span, e)
+      let l = c .before .before .before .before .before .before .before .before .closeness .ensures in
+      let more = deeper (c .before .before .before .before) in
+      (omega (arith, s .0, s .1 .0), (more .0, more .1, l .0, l .1, omega (arith, s .1 .2), omega (arith, s .1 .3, span), (omega (arith, s .1 .4 .0, b .many, same .many), omega (arith, s .1 .4 .1, b .word, same .word)), known-shallow near e d _ _ z known))
 
   halves-push-conic-requires-2 : halves-lts.Need-push-conic-requires-2 halves-claims halves-at push-halves.Post
   halves-push-conic-requires-2 c κs =
-      let a = c .before .before .before .before .before .before .before .before .before .before .before .before .before .before .before .before .before .before .before .args in
-      let s = c .before .before .before .before .before .before .before .before .before .before .before .before .before .before .before .before .before .before .before .pre in
-      let v = c .before .before .before .before .before .before .before .before .before .before .before in
+      let v = c .before .before .before .before .before .before .before .before .before .before .before .before .before .before .before .before in
       let w = v .before in
+      let a = w .before .before .before .before .before .before .before .args in
+      let s = w .before .before .before .before .before .before .before .pre in
       let b = both w in
       let d = a .depth - 1 in
       let u = w .weight-of-halves in
       let e = v .depth-of-halves .result in
       let z = v .depth-of-halves .ensures in
       let near = nearOneOf (u .result) in
-      let h = halvesOf (conicAt (a .x0) (a .y0) (a .x1) (a .y1) (a .x2) (a .y2) (a .w)) (c .before .before .before .before .before .before .before .before .before .before .before .before .before .before .before .before .before .subdivide .result) (u .result) in
+      let h = halvesOf (conicAt (a .x0) (a .y0) (a .x1) (a .y1) (a .x2) (a .y2) (a .w)) (w .before .before .before .before .before .subdivide .result) (u .result) in
       let first = c .before .before .before .before .before .before .push-conic in
       let shallow = not-deeper near e d z in
       let power : 2 ^ e ≤ 2 ^ d = pow-mono shallow in
@@ -237,24 +304,26 @@ module _ (t : ℕ) where
       let m = ap (λ (i : ℕ). wordOf (r i)) (half w) in
       let left = same-quads near e d (h .left) (a .start) refl z in
       let right = same-quads near e d (h .right) (a .start + (1 * 2 ^ d) % 2 ^ 64) refl z in
-      (omega (arith, s .0, s .1 .0), (omega (arith, s .1 .2), omega (arith, s .1 .3, span, half w), (omega (arith, s .1 .4 .0, b .many, n, left .many, right .many, first .ensures .1 .0 .0, first .kept), omega (arith, s .1 .4 .1, b .word, m, left .word, right .word, first .ensures .1 .0 .1)), first .ensures .1 .1 .0, deep-not-near near e d z))
+      let test = c .before .before .before .before .before .before .before .before .before .before .before .before .before .before .closeness2 .ensures in
+      let more = deeper (c .before .before .before .before .before .before .before .before .before .before .before) in
+      (omega (arith, s .0, s .1 .0), (more .0, more .1, test .0, test .1, omega (arith, s .1 .2), omega (arith, s .1 .3, span, half w), (omega (arith, s .1 .4 .0, b .many, n, left .many, right .many, first .ensures .1 .0 .0, first .kept), omega (arith, s .1 .4 .1, b .word, m, left .word, right .word, first .ensures .1 .0 .1)), first .ensures .1 .1 .0))
 
-  halves-same-length : halves-lts.Need-same-length halves-claims halves-at push-halves.Post
-  halves-same-length c = search needs
+  halves-same-length-2 : halves-lts.Need-same-length-2 halves-claims halves-at push-halves.Post
+  halves-same-length-2 c = search needs
 
-  halves-returns : halves-lts.Need-returns halves-claims halves-at push-halves.Post
-  halves-returns c =
-      let a = c .before .before .before .before .before .before .before .before .before .before .before .before .before .before .before .before .before .before .before .before .before .before .args in
-      let s = c .before .before .before .before .before .before .before .before .before .before .before .before .before .before .before .before .before .before .before .before .before .before .pre in
-      let v = c .before .before .before .before .before .before .before .before .before .before .before .before .before .before in
+  halves-returns-2 : halves-lts.Need-returns-2 halves-claims halves-at push-halves.Post
+  halves-returns-2 c =
+      let v = c .before .before .before .before .before .before .before .before .before .before .before .before .before .before .before .before .before .before .before in
       let w = v .before in
+      let a = w .before .before .before .before .before .before .before .args in
+      let s = w .before .before .before .before .before .before .before .pre in
       let b = both w in
       let d = a .depth - 1 in
       let u = w .weight-of-halves in
       let e = v .depth-of-halves .result in
       let z = v .depth-of-halves .ensures in
       let near = nearOneOf (u .result) in
-      let h = halvesOf (conicAt (a .x0) (a .y0) (a .x1) (a .y1) (a .x2) (a .y2) (a .w)) (c .before .before .before .before .before .before .before .before .before .before .before .before .before .before .before .before .before .before .before .before .subdivide .result) (u .result) in
+      let h = halvesOf (conicAt (a .x0) (a .y0) (a .x1) (a .y1) (a .x2) (a .y2) (a .w)) (w .before .before .before .before .before .subdivide .result) (u .result) in
       let k = conicAt (a .x0) (a .y0) (a .x1) (a .y1) (a .x2) (a .y2) (a .w) in
       let first = c .before .before .before .before .before .before .before .before .before .push-conic in
       let second = c .before .before .push-conic2 in
@@ -312,30 +381,29 @@ pub +push-conic+push-halves+push-unsure-spec : {M : Type 1} → statement M
     (conic-put-quad-requires t)
     (conic-same-length t)
     (conic-returns t)
-    (conic-closeness-requires t)
-    (conic-enum-told t)
-    (conic-put-quad-requires-2 t)
-    (conic-enum-told-2 t)
     (conic-push-halves-requires t)
-    (conic-enum-told-3 t)
-    (conic-push-unsure-requires t)
     (conic-same-length-2 t)
     (conic-returns-2 t)
+    (conic-push-unsure-requires t)
     (conic-same-length-3 t)
-    (conic-returns-3 t)
-    (conic-same-length-4 t)
-    (conic-returns-4 t))
+    (conic-returns-3 t))
     (λ t. halves-lts.spec (halves-claims t) (halves-at t) push-halves.Post
     (halves-sub-d t)
     (halves-subdivide-requires t)
     (halves-weight-of-halves-requires t)
     (halves-depth-of-halves-requires t)
-    (halves-push-conic-requires t)
     (halves-shl-next t)
     (halves-add-next t)
-    (halves-push-conic-requires-2 t)
+    (halves-closeness-requires t)
+    (halves-closeness-requires-2 t)
+    (halves-put-quad-requires t)
+    (halves-put-quad-requires-2 t)
     (halves-same-length t)
-    (halves-returns t))
+    (halves-returns t)
+    (halves-push-conic-requires t)
+    (halves-push-conic-requires-2 t)
+    (halves-same-length-2 t)
+    (halves-returns-2 t))
     (λ t. unsure-lts.spec (unsure-claims t) (unsure-at t) push-unsure.Post
     (unsure-is-near-requires t)
     (unsure-put-quad-requires t)
