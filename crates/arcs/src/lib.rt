@@ -2,7 +2,7 @@
 // the superellipse arc, and the four points of a cubic for the circular one.
 // Binary32 throughout, every operation rounded once, with the Rust's names and in its order.
 ghost use mathlib.Core.Path.{_≡_};
-ghost use Prim.Native.Nat.{_<_};
+ghost use Prim.Native.Nat.{_+_, _<_};
 ghost use Rattle.arcs.specs.Conics.{conicAt, cappedDegree, superellipseConicFactorsOf, intersectionOf, meetingOf, joinedOf, superellipseConicsOf};
 ghost use Rattle.arcs.specs.Circle.{arcPointsOf, circularArcPointsOf};
 ghost use Rattle.arcs.specs.Placement.{flippedOf, applyOf};
@@ -60,11 +60,25 @@ pub struct Placement {
     pub flip: bool,
 }
 
-fn conic(row: usize, column: usize) -> f32
-    requires { ⌜ (row < 13) × (column < 2) ⌝ }
-    ensures { λ r. ⌜ r ≡ conicAt row column ⌝ }
+// Both weights of a row of the table and of the next, read from one copy of it.
+struct RowPair {
+    first: f32,
+    second: f32,
+    next_first: f32,
+    next_second: f32,
+}
+
+fn rows_at(left: usize) -> RowPair
+    requires { ⌜ left < 12 ⌝ }
+    ensures { λ r. ⌜ (r .first ≡ conicAt left 0) × (r .second ≡ conicAt left 1) × (r .«next_first» ≡ conicAt (left + 1) 0) × (r .«next_second» ≡ conicAt (left + 1) 1) ⌝ }
 {
-    CONIC_TABLE[row][column]
+    let table = CONIC_TABLE;
+    RowPair {
+        first: table[left][0],
+        second: table[left][1],
+        next_first: table[left + 1][0],
+        next_second: table[left + 1][1],
+    }
 }
 
 // A degree is capped at the table's last, and not raised to its first.
@@ -88,8 +102,9 @@ pub fn superellipse_conic_factors(n: f32, xj_over_a: f32) -> ConicFactors
     let left = octant::left_row(steps, 11);
     let frac = steps - left as f32;
     let yh_proportion = ieee::sqrt(capped);
-    let weight1 = (1.0 - frac) * conic(left, 0) + frac * conic(left + 1, 0) * yh_proportion;
-    let weight2 = (1.0 - frac) * conic(left, 1) + frac * conic(left + 1, 1) * xj_over_a;
+    let rows = rows_at(left);
+    let weight1 = (1.0 - frac) * rows.first + frac * rows.next_first * yh_proportion;
+    let weight2 = (1.0 - frac) * rows.second + frac * rows.next_second * xj_over_a;
     ConicFactors {
         weight1,
         weight2,
