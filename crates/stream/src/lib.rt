@@ -8,11 +8,12 @@ ghost use Rattle.stream.specs.Stream.{put, pointCount, freshBuilder, isE
 use geometry::Point;
 
 // How much of the buffers is held, the contour's start and the pen. Start and pen mean nothing while
-// no verb is held.
+// no verb is held. The counts stand apart: side by side they would be read as one, and the processor waits where
+// two writes are read at once.
 pub struct Builder {
     pub verbs: usize,
-    pub points: usize,
     pub start: Point,
+    pub points: usize,
     pub pen: Point,
 }
 
