@@ -1,5 +1,5 @@
 // Numbers four by four, so that a processor works at several at once: none waits for another. Horner's scheme goes two times
-// four, which is as many as the registers of a processor hold.
+// four, which is as many as the registers of a processor hold, or four times four where so many are asked for at once.
 ghost use mathlib.Core.Path.{_≡_};
 ghost use lib.Ieee.{binary64, mul};
 ghost use Rattle.series.specs.Horner.{hornerOf};
@@ -15,6 +15,11 @@ pub struct Four {
 pub struct Eight {
     pub low: Four,
     pub high: Four,
+}
+
+pub struct Sixteen {
+    pub first: Eight,
+    pub second: Eight,
 }
 
 pub struct FourFloats {
@@ -108,4 +113,41 @@ pub fn horner(cs: &[f64], y: Four, z: Four) -> Eight
         h = step(h, z, c);
     }
     Eight { low: g, high: h }
+}
+
+// The same at four times four places.
+pub fn horner_two(cs: &[f64], y: Four, z: Four, v: Four, w: Four) -> Sixteen
+    ensures { λ r. ⌜ (r .first .low ≡ each (hornerOf binary64 (now (cs .entry))) y) × (r .first .high ≡ each (hornerOf binary64 (now (cs .entry))) z) × (r .second .low ≡ each (hornerOf binary64 (now (cs .entry))) v) × (r .second .high ≡ each (hornerOf binary64 (now (cs .entry))) w) ⌝ }
+{
+    let n = cs.len();
+    if n == 0 {
+        let zeros = alike(0.0);
+        let eight = Eight {
+            low: zeros,
+            high: zeros,
+        };
+        return Sixteen {
+            first: eight,
+            second: eight,
+        };
+    }
+    let mut k = n - 1;
+    let last = cs[k];
+    let top = alike(last);
+    let mut g = top;
+    let mut h = top;
+    let mut i = top;
+    let mut j = top;
+    while k > 0 {
+        k -= 1;
+        let c = cs[k];
+        g = step(g, y, c);
+        h = step(h, z, c);
+        i = step(i, v, c);
+        j = step(j, w, c);
+    }
+    Sixteen {
+        first: Eight { low: g, high: h },
+        second: Eight { low: i, high: j },
+    }
 }

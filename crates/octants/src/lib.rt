@@ -216,11 +216,21 @@ pub fn conics(p: FourOctants, q: FourOctants) -> EightConics
     let g = four_factors(q);
     let y = four_heights(f, p);
     let z = four_heights(g, q);
-    let powers = powers::pow(y, n, z, m);
     let n_less = less_one(n);
     let m_less = less_one(m);
-    // These wait for no other power: they go between the powers and the roots, which wait for those.
-    let at_j = powers::pow(ratios(starts(p)), n_less, ratios(starts(q)), m_less);
+    // Neither eight waits for the other, so they go together.
+    let both = powers::pow_two(
+        y,
+        n,
+        z,
+        m,
+        ratios(starts(p)),
+        n_less,
+        ratios(starts(q)),
+        m_less,
+    );
+    let powers = both.first;
+    let at_j = both.second;
     let roots = powers::pow(
         complements(powers.low),
         reciprocals(n),

@@ -1,4 +1,4 @@
--- What the steps of eight powers are, four by four. Cited by the contracts of inner functions. Definitions only.
+-- What the steps of eight or sixteen powers are, four by four. Cited by the contracts of inner functions. Definitions only.
 use mathlib.Core.Path.{_≡_}
 use mathlib.Core.Bool.{Bool, _&&_}
 use lib.Dec.{T}

@@ -1,5 +1,6 @@
-// Eight powers in step, each as exponential's `pow`. A power is a long chain of steps, each of which waits for the one before;
-// those of another power need not.
+// Eight or sixteen powers in step, each as exponential's `pow`. A power is a long chain of steps, each of which waits for the
+// one before; those of another power need not. Two calls for eight after each other do not overlap, so sixteen have functions of
+// their own.
 ghost use mathlib.Core.Path.{_≡_};
 ghost use mathlib.Core.Bool.{true};
 ghost use Rattle.lanes.specs.Lanes.{each, pairwiseFloats};
@@ -11,6 +12,12 @@ use lanes::Eight;
 use lanes::EightFloats;
 use lanes::Four;
 use lanes::FourFloats;
+use lanes::Sixteen;
+
+pub struct SixteenFloats {
+    pub first: EightFloats,
+    pub second: EightFloats,
+}
 
 const LN2: f64 = 0.6931471805599453;
 
@@ -84,6 +91,32 @@ fn ln(u: Four, v: Four) -> Eight
     }
 }
 
+fn ln_two(u: Four, v: Four, a: Four, b: Four) -> Sixteen
+    requires { ⌜ Regular u × Regular v × Regular a × Regular b ⌝ }
+    ensures { λ r. ⌜ (r .first .low ≡ each lnOf u) × (r .first .high ≡ each lnOf v) × (r .second .low ≡ each lnOf a) × (r .second .high ≡ each lnOf b) ⌝ }
+{
+    let p = split(u);
+    let q = split(v);
+    let r = split(a);
+    let s = split(b);
+    let w = lanes::multiply(p.s, p.s);
+    let x = lanes::multiply(q.s, q.s);
+    let y = lanes::multiply(r.s, r.s);
+    let z = lanes::multiply(s.s, s.s);
+    let c = series::odd_reciprocals();
+    let h = lanes::horner_two(&c[..12], w, x, y, z);
+    Sixteen {
+        first: Eight {
+            low: logs(p, h.first.low),
+            high: logs(q, h.first.high),
+        },
+        second: Eight {
+            low: logs(r, h.second.low),
+            high: logs(s, h.second.high),
+        },
+    }
+}
+
 fn reduce(t: Four) -> FourReduced
     requires { ⌜ allModerate t ≡ true ⌝ }
     ensures { λ s. ⌜ Reduces (s .r) (s .power) t ⌝ }
@@ -145,6 +178,39 @@ fn exp(t: Four, u: Four) -> Eight
     }
 }
 
+fn exp_two(t: Four, u: Four, v: Four, w: Four) -> Sixteen
+    ensures { λ r. ⌜ (r .first .low ≡ each expOf t) × (r .first .high ≡ each expOf u) × (r .second .low ≡ each expOf v) × (r .second .high ≡ each expOf w) ⌝ }
+{
+    if all_moderate(t) & all_moderate(u) & all_moderate(v) & all_moderate(w) {
+        let p = reduce(t);
+        let q = reduce(u);
+        let r = reduce(v);
+        let s = reduce(w);
+        let c = series::factorial_reciprocals();
+        let h = lanes::horner_two(&c[..14], p.r, q.r, r.r, s.r);
+        return Sixteen {
+            first: Eight {
+                low: lanes::multiply(h.first.low, p.power),
+                high: lanes::multiply(h.first.high, q.power),
+            },
+            second: Eight {
+                low: lanes::multiply(h.second.low, r.power),
+                high: lanes::multiply(h.second.high, s.power),
+            },
+        };
+    }
+    Sixteen {
+        first: Eight {
+            low: exp_each(t),
+            high: exp_each(u),
+        },
+        second: Eight {
+            low: exp_each(v),
+            high: exp_each(w),
+        },
+    }
+}
+
 fn pow_main(b: FourFloats, y: FourFloats, c: FourFloats, z: FourFloats) -> EightFloats
     requires { ⌜ AllPositive b × AllPositive c ⌝ }
     ensures { λ r. ⌜ (r .low ≡ pairwiseFloats mainOf b y) × (r .high ≡ pairwiseFloats mainOf c z) ⌝ }
@@ -156,6 +222,42 @@ fn pow_main(b: FourFloats, y: FourFloats, c: FourFloats, z: FourFloats) -> Eight
     EightFloats {
         low: lanes::narrow(e.low),
         high: lanes::narrow(e.high),
+    }
+}
+
+fn pow_main_two(
+    b: FourFloats,
+    y: FourFloats,
+    c: FourFloats,
+    z: FourFloats,
+    d: FourFloats,
+    v: FourFloats,
+    e: FourFloats,
+    w: FourFloats,
+) -> SixteenFloats
+    requires { ⌜ AllPositive b × AllPositive c × AllPositive d × AllPositive e ⌝ }
+    ensures { λ r. ⌜ (r .first .low ≡ pairwiseFloats mainOf b y) × (r .first .high ≡ pairwiseFloats mainOf c z) × (r .second .low ≡ pairwiseFloats mainOf d v) × (r .second .high ≡ pairwiseFloats mainOf e w) ⌝ }
+{
+    let l = ln_two(
+        lanes::widen(b),
+        lanes::widen(c),
+        lanes::widen(d),
+        lanes::widen(e),
+    );
+    let s = lanes::multiply(lanes::widen(y), l.first.low);
+    let t = lanes::multiply(lanes::widen(z), l.first.high);
+    let u = lanes::multiply(lanes::widen(v), l.second.low);
+    let x = lanes::multiply(lanes::widen(w), l.second.high);
+    let r = exp_two(s, t, u, x);
+    SixteenFloats {
+        first: EightFloats {
+            low: lanes::narrow(r.first.low),
+            high: lanes::narrow(r.first.high),
+        },
+        second: EightFloats {
+            low: lanes::narrow(r.second.low),
+            high: lanes::narrow(r.second.high),
+        },
     }
 }
 
@@ -188,5 +290,33 @@ pub fn pow(b: FourFloats, y: FourFloats, c: FourFloats, z: FourFloats) -> EightF
     EightFloats {
         low: pow_each(b, y),
         high: pow_each(c, z),
+    }
+}
+
+// As `pow`, and of four bases d by the exponents v, and of four bases e by the exponents w.
+pub fn pow_two(
+    b: FourFloats,
+    y: FourFloats,
+    c: FourFloats,
+    z: FourFloats,
+    d: FourFloats,
+    v: FourFloats,
+    e: FourFloats,
+    w: FourFloats,
+) -> SixteenFloats
+    ensures { λ r. ⌜ (r .first .low ≡ pairwiseFloats powOf b y) × (r .first .high ≡ pairwiseFloats powOf c z) × (r .second .low ≡ pairwiseFloats powOf d v) × (r .second .high ≡ pairwiseFloats powOf e w) ⌝ }
+{
+    if all_plain(b, y) & all_plain(c, z) & all_plain(d, v) & all_plain(e, w) {
+        return pow_main_two(b, y, c, z, d, v, e, w);
+    }
+    SixteenFloats {
+        first: EightFloats {
+            low: pow_each(b, y),
+            high: pow_each(c, z),
+        },
+        second: EightFloats {
+            low: pow_each(d, v),
+            high: pow_each(e, w),
+        },
     }
 }

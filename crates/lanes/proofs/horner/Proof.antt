@@ -1,15 +1,13 @@
 -- As series' `horner`, at each place. Assumes nothing.
-use mathlib.Core.Path.{_≡_, sym, ap, _∙_}
-use Prim.Native.Nat.{suc, _<_, _-_}
+use mathlib.Core.Path.{_≡_, _∙_}
+use Prim.Native.Nat.{_<_}
 use native.Mathlib.Omega.{arith}
-use lib.ListN.{length, drop, getD}
-use lib.Ieee.{Float, nan, binary64}
+use lib.ListN.{length, drop}
+use lib.Ieee.{binary64}
 use borrow.Author.Needs.{needs}
 use Rattle.series.specs.Horner.{hornerOf}
-use Rattle.series.proofs.Horners.{horner-last, horner-down, horner-none}
-use Rattle.lanes.specs.Lanes.{alikeOf, each, pairwise, stepOf}
-use Rattle.lanes.specs.declared.Four.{Four}
-use Rattle.lanes.proofs.Laws.{alike-each, each-step}
+use Rattle.lanes.specs.Lanes.{each}
+use Rattle.lanes.proofs.Laws.{none-each, last-each, down-each}
 use Rattle.lanes.proofs.horner.Statement.{statement}
 use Rattle.lanes.proofs.horner.Tie as tie
 
@@ -28,8 +26,8 @@ alike-requires-2 c κs = search needs
 returns : tie.Need-returns Inv-loop μ-loop
 returns c =
     let a = c .before .before .before .before .args in
-    let none : (v : Four) → alikeOf _ ≡ each (hornerOf binary64 (a .cs .now)) v = λ v. alike-each _ _ v (λ z. horner-none (a .cs .now) z (omega arith)) in
-    (c .before .alike .ensures ∙ none (a .y), c .alike2 .ensures ∙ none (a .z))
+    let none : length (a .cs .now) ≡ 0 = omega arith in
+    (c .before .alike .ensures ∙ none-each _ (a .y) none, c .alike2 .ensures ∙ none-each _ (a .z) none)
 
 sub-k : tie.Need-sub-k Inv-loop μ-loop
 sub-k c = search needs
@@ -49,9 +47,8 @@ alike-requires-4 c κs = search needs
 loop-holds : tie.Need-loop-holds Inv-loop μ-loop
 loop-holds c =
     let a = c .before .before .before .before .before .args in
-    let cs = a .cs .now in
-    let last : (v : Four) → alikeOf _ ≡ each (hornerOf binary64 (drop (length cs - 1) cs)) v = λ v. alike-each _ _ v (λ q. sym (horner-last binary64 q cs (length cs - 1) nan (omega arith))) in
-    (omega arith, c .before .alike3 .ensures ∙ last (a .y), c .alike4 .ensures ∙ last (a .z))
+    let some : 0 < length (a .cs .now) = omega arith in
+    (omega arith, c .before .alike3 .ensures ∙ last-each (a .cs .now) (a .y) some, c .alike4 .ensures ∙ last-each (a .cs .now) (a .z) some)
 
 sub-k-2 : tie.Need-sub-k-2 Inv-loop μ-loop
 sub-k-2 c = search needs
@@ -74,12 +71,9 @@ loop-less c = search needs
 loop-again : tie.Need-loop-again Inv-loop μ-loop
 loop-again c =
     let a = c .before .before .before .before .before .before .before .before .before .before .args in
-    let cs = a .cs .now in
     let loop = c .before .before .before .before .loop in
-    let k = loop .k in
-    let e : suc (k - 1) ≡ k = omega arith in
-    let down : (z : Float) → stepOf (getD cs (k - 1) nan) (hornerOf binary64 (drop k cs) z) z ≡ hornerOf binary64 (drop (k - 1) cs) z = λ z. rw (horner-down binary64 z cs (k - 1) nan (omega arith), e) in
-    (omega arith, c .before .step .ensures ∙ each-step _ _ _ _ (a .y) (loop .inv .1) down, c .step2 .ensures ∙ each-step _ _ _ _ (a .z) (loop .inv .2) down)
+    let down = down-each (a .cs .now) (loop .k) (omega arith) (loop .inv .0) in
+    (omega arith, c .before .step .ensures ∙ down _ _ (loop .inv .1), c .step2 .ensures ∙ down _ _ (loop .inv .2))
 
 returns-2 : tie.Need-returns-2 Inv-loop μ-loop
 returns-2 c =

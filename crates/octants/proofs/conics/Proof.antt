@@ -56,9 +56,6 @@ four-heights-requires c κs = search needs
 four-heights-requires-2 : tie.Need-four-heights-requires-2
 four-heights-requires-2 c κs = search needs
 
-pow-requires : tie.Need-pow-requires
-pow-requires c κs = search needs
-
 less-one-requires : tie.Need-less-one-requires
 less-one-requires c κs = search needs
 
@@ -77,8 +74,8 @@ starts-requires-2 c κs = search needs
 ratios-requires-2 : tie.Need-ratios-requires-2
 ratios-requires-2 c κs = search needs
 
-pow-requires-2 : tie.Need-pow-requires-2
-pow-requires-2 c κs = search needs
+pow-two-requires : tie.Need-pow-two-requires
+pow-two-requires c κs = search needs
 
 complements-requires : tie.Need-complements-requires
 complements-requires c κs = search needs
@@ -92,8 +89,8 @@ complements-requires-2 c κs = search needs
 reciprocals-requires-2 : tie.Need-reciprocals-requires-2
 reciprocals-requires-2 c κs = search needs
 
-pow-requires-3 : tie.Need-pow-requires-3
-pow-requires-3 c κs = search needs
+pow-requires : tie.Need-pow-requires
+pow-requires c κs = search needs
 
 four-met-requires : tie.Need-four-met-requires
 four-met-requires c κs = search needs
@@ -107,8 +104,8 @@ ratios-requires-3 c κs = search needs
 ratios-requires-4 : tie.Need-ratios-requires-4
 ratios-requires-4 c κs = search needs
 
-pow-requires-4 : tie.Need-pow-requires-4
-pow-requires-4 c κs = search needs
+pow-requires-2 : tie.Need-pow-requires-2
+pow-requires-2 c κs = search needs
 
 four-joined-requires : tie.Need-four-joined-requires
 four-joined-requires c κs = search needs
@@ -118,8 +115,8 @@ four-joined-requires-2 c κs = search needs
 
 returns : tie.Need-returns
 returns c = (
-  in-step _ _ _ _ _ _ _ _ _ _ _ _ _ _ _ _ (c .before .before .before .before .before .before .before .before .before .before .before .before .before .before .before .before .before .before .before .before .before .before .before .before .before .degrees .ensures) (c .before .before .before .before .before .before .before .before .before .before .before .before .before .before .before .before .before .before .before .before .before .before .before .four-factors .ensures) (c .before .before .before .before .before .before .before .before .before .before .before .before .before .before .before .before .before .before .before .before .before .four-heights .ensures) (c .before .before .before .before .before .before .before .before .before .before .before .before .before .before .before .before .before .before .before .pow .ensures .0) (c .before .before .before .before .before .before .before .before .before .before .before .before .before .before .before .before .before .before .less-one .ensures) (c .before .before .before .before .before .before .before .before .before .before .before .before .before .before .before .before .starts .ensures) (c .before .before .before .before .before .before .before .before .before .before .before .before .before .before .before .ratios .ensures) (c .before .before .before .before .before .before .before .before .before .before .before .before .pow2 .ensures .0) (c .before .before .before .before .before .before .before .before .before .before .before .complements .ensures) (c .before .before .before .before .before .before .before .before .before .before .reciprocals .ensures) (c .before .before .before .before .before .before .before .pow3 .ensures .0) (c .before .before .before .before .before .before .four-met .ensures) (c .before .before .before .before .ratios3 .ensures) (c .before .before .pow4 .ensures .0) (c .before .four-joined .ensures),
-  in-step _ _ _ _ _ _ _ _ _ _ _ _ _ _ _ _ (c .before .before .before .before .before .before .before .before .before .before .before .before .before .before .before .before .before .before .before .before .before .before .before .before .degrees2 .ensures) (c .before .before .before .before .before .before .before .before .before .before .before .before .before .before .before .before .before .before .before .before .before .before .four-factors2 .ensures) (c .before .before .before .before .before .before .before .before .before .before .before .before .before .before .before .before .before .before .before .before .four-heights2 .ensures) (c .before .before .before .before .before .before .before .before .before .before .before .before .before .before .before .before .before .before .before .pow .ensures .1) (c .before .before .before .before .before .before .before .before .before .before .before .before .before .before .before .before .before .less-one2 .ensures) (c .before .before .before .before .before .before .before .before .before .before .before .before .before .before .starts2 .ensures) (c .before .before .before .before .before .before .before .before .before .before .before .before .before .ratios2 .ensures) (c .before .before .before .before .before .before .before .before .before .before .before .before .pow2 .ensures .1) (c .before .before .before .before .before .before .before .before .before .complements2 .ensures) (c .before .before .before .before .before .before .before .before .reciprocals2 .ensures) (c .before .before .before .before .before .before .before .pow3 .ensures .1) (c .before .before .before .before .before .four-met2 .ensures) (c .before .before .before .ratios4 .ensures) (c .before .before .pow4 .ensures .1) (c .four-joined2 .ensures),
+  in-step _ _ _ _ _ _ _ _ _ _ _ _ _ _ _ _ (c .before .before .before .before .before .before .before .before .before .before .before .before .before .before .before .before .before .before .before .before .before .before .before .before .before .before .degrees .ensures) (c .before .before .before .before .before .before .before .before .before .before .before .before .before .before .before .before .before .before .before .before .before .before .before .before .four-factors .ensures) (c .before .before .before .before .before .before .before .before .before .before .before .before .before .before .before .before .before .before .before .before .before .before .four-heights .ensures) (c .before .before .before .before .before .before .before .before .before .before .before .before .before .before .pow-two .ensures .0) (c .before .before .before .before .before .before .before .before .before .before .before .before .before .before .before .before .before .before .before .before .less-one .ensures) (c .before .before .before .before .before .before .before .before .before .before .before .before .before .before .before .before .before .before .starts .ensures) (c .before .before .before .before .before .before .before .before .before .before .before .before .before .before .before .before .before .ratios .ensures) (c .before .before .before .before .before .before .before .before .before .before .before .before .before .before .pow-two .ensures .2) (c .before .before .before .before .before .before .before .before .before .before .before .complements .ensures) (c .before .before .before .before .before .before .before .before .before .before .reciprocals .ensures) (c .before .before .before .before .before .before .before .pow .ensures .0) (c .before .before .before .before .before .before .four-met .ensures) (c .before .before .before .before .ratios3 .ensures) (c .before .before .pow2 .ensures .0) (c .before .four-joined .ensures),
+  in-step _ _ _ _ _ _ _ _ _ _ _ _ _ _ _ _ (c .before .before .before .before .before .before .before .before .before .before .before .before .before .before .before .before .before .before .before .before .before .before .before .before .before .degrees2 .ensures) (c .before .before .before .before .before .before .before .before .before .before .before .before .before .before .before .before .before .before .before .before .before .before .before .four-factors2 .ensures) (c .before .before .before .before .before .before .before .before .before .before .before .before .before .before .before .before .before .before .before .before .before .four-heights2 .ensures) (c .before .before .before .before .before .before .before .before .before .before .before .before .before .before .pow-two .ensures .1) (c .before .before .before .before .before .before .before .before .before .before .before .before .before .before .before .before .before .before .before .less-one2 .ensures) (c .before .before .before .before .before .before .before .before .before .before .before .before .before .before .before .before .starts2 .ensures) (c .before .before .before .before .before .before .before .before .before .before .before .before .before .before .before .ratios2 .ensures) (c .before .before .before .before .before .before .before .before .before .before .before .before .before .before .pow-two .ensures .3) (c .before .before .before .before .before .before .before .before .before .complements2 .ensures) (c .before .before .before .before .before .before .before .before .reciprocals2 .ensures) (c .before .before .before .before .before .before .before .pow .ensures .1) (c .before .before .before .before .before .four-met2 .ensures) (c .before .before .before .ratios4 .ensures) (c .before .before .pow2 .ensures .1) (c .four-joined2 .ensures),
 )
 
 pub conics-spec : {M : Type 1} → statement M
@@ -132,24 +129,23 @@ conics-spec =
     four-factors-requires-2
     four-heights-requires
     four-heights-requires-2
-    pow-requires
     less-one-requires
     less-one-requires-2
     starts-requires
     ratios-requires
     starts-requires-2
     ratios-requires-2
-    pow-requires-2
+    pow-two-requires
     complements-requires
     reciprocals-requires
     complements-requires-2
     reciprocals-requires-2
-    pow-requires-3
+    pow-requires
     four-met-requires
     four-met-requires-2
     ratios-requires-3
     ratios-requires-4
-    pow-requires-4
+    pow-requires-2
     four-joined-requires
     four-joined-requires-2
     returns)

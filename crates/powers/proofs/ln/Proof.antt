@@ -1,12 +1,6 @@
 use mathlib.Core.Path.{_∙_}
 use Rattle.series.specs.Coefficients.{terms}
 use Rattle.powers.proofs.Laws.{logs-by}
-use mathlib.Core.Path.{_≡_, ap}
-use lib.ListN.{take}
-use lib.Ieee.{binary64}
-use Rattle.series.specs.Horner.{hornerOf}
-use Rattle.lanes.specs.declared.Four.{Four}
-use Rattle.lanes.specs.Lanes.{each}
 use borrow.Author.Needs.{needs}
 use Rattle.powers.proofs.ln.Statement.{statement}
 use Rattle.powers.proofs.ln.Tie as tie
@@ -44,13 +38,12 @@ logs-requires-2 c κs = search needs
 
 returns : tie.Need-returns
 returns c =
-    let cs = c .before .before .before .before .odd-reciprocals in
+    let cs = c .before .before .before .before .odd-reciprocals .ensures in
     let p = c .before .before .before .before .before .before .before .before .split in
     let q = c .before .before .before .before .before .before .before .split2 in
-    let h = c .before .before .horner .ensures in
-    let squared : (x y : Four) → x ≡ y → each (hornerOf binary64 (take 12 (cs .result))) x ≡ each (hornerOf binary64 (take 12 (cs .result))) y = λ x y e. ap (λ (z : Four). each (hornerOf binary64 (take 12 (cs .result))) z) e in (
-      c .before .logs .ensures ∙ logs-by _ (p .result) _ _ (cs .ensures) (h .0 ∙ squared _ _ (c .before .before .before .before .before .before .multiply .ensures)) (p .ensures),
-      c .logs2 .ensures ∙ logs-by _ (q .result) _ _ (cs .ensures) (h .1 ∙ squared _ _ (c .before .before .before .before .before .multiply2 .ensures)) (q .ensures),
+    let h = c .before .before .horner .ensures in (
+      c .before .logs .ensures ∙ logs-by _ (p .result) _ _ _ cs (c .before .before .before .before .before .before .multiply .ensures) (h .0) (p .ensures),
+      c .logs2 .ensures ∙ logs-by _ (q .result) _ _ _ cs (c .before .before .before .before .before .multiply2 .ensures) (h .1) (q .ensures),
     )
 
 pub ln-spec : {M : Type 1} → statement M

@@ -1,9 +1,6 @@
-use mathlib.Core.Path.{_≡_, sym, _∙_}
-use Rattle.lanes.specs.Lanes.{pairwiseFloats}
-use Rattle.exponential.specs.Power.{mainOf, powOf}
+use mathlib.Core.Path.{sym, _∙_}
 use Rattle.ieee.proofs.Tests.{both}
-use Rattle.powers.specs.Powers.{AllPositive}
-use Rattle.powers.proofs.Laws.{plain-are}
+use Rattle.powers.proofs.Laws.{Plain, plain-are}
 use borrow.Author.Needs.{needs}
 use Rattle.powers.proofs.pow.Statement.{statement}
 use Rattle.powers.proofs.pow.Tie as tie
@@ -19,10 +16,10 @@ module _ (c : tie.Then1) where
   abbrev start : tie.Start
   start = c .before .before .before
 
-  plain1 : AllPositive (start .args .b) × (pairwiseFloats powOf (start .args .b) (start .args .y) ≡ pairwiseFloats mainOf (start .args .b) (start .args .y))
+  plain1 : Plain (start .args .b) (start .args .y)
   plain1 = plain-are (start .args .b) (start .args .y) (sym (c .before .before .all-plain .ensures) ∙ both (c .before .before .all-plain .result) (c .before .all-plain2 .result) (c .if1 .taken) .0)
 
-  plain2 : AllPositive (start .args .c) × (pairwiseFloats powOf (start .args .c) (start .args .z) ≡ pairwiseFloats mainOf (start .args .c) (start .args .z))
+  plain2 : Plain (start .args .c) (start .args .z)
   plain2 = plain-are (start .args .c) (start .args .z) (sym (c .before .all-plain2 .ensures) ∙ both (c .before .before .all-plain .result) (c .before .all-plain2 .result) (c .if1 .taken) .1)
 
 pow-main-requires : tie.Need-pow-main-requires
