@@ -210,6 +210,8 @@ fn four_joined(
 pub fn conics(p: FourOctants, q: FourOctants) -> EightConics
     ensures { λ r. ⌜ (r .low ≡ conicsEach p) × (r .high ≡ conicsEach q) ⌝ }
 {
+    let odd = series::odd_reciprocals();
+    let inverse = series::factorial_reciprocals();
     let n = degrees(p);
     let m = degrees(q);
     let f = four_factors(p);
@@ -218,20 +220,15 @@ pub fn conics(p: FourOctants, q: FourOctants) -> EightConics
     let z = four_heights(g, q);
     let n_less = less_one(n);
     let m_less = less_one(m);
+    let s = ratios(starts(p));
+    let t = ratios(starts(q));
     // Neither eight waits for the other, so they go together.
-    let both = powers::pow_two(
-        y,
-        n,
-        z,
-        m,
-        ratios(starts(p)),
-        n_less,
-        ratios(starts(q)),
-        m_less,
-    );
+    let both = powers::pow_two(y, n, z, m, s, n_less, t, m_less);
     let powers = both.first;
     let at_j = both.second;
     let roots = powers::pow(
+        &odd[..12],
+        &inverse[..14],
         complements(powers.low),
         reciprocals(n),
         complements(powers.high),
@@ -239,7 +236,14 @@ pub fn conics(p: FourOctants, q: FourOctants) -> EightConics
     );
     let h = four_met(p, roots.low, y);
     let i = four_met(q, roots.high, z);
-    let at_h = powers::pow(ratios(h), n_less, ratios(i), m_less);
+    let at_h = powers::pow(
+        &odd[..12],
+        &inverse[..14],
+        ratios(h),
+        n_less,
+        ratios(i),
+        m_less,
+    );
     EightConics {
         low: four_joined(p, f, h, at_h.low, at_j.low),
         high: four_joined(q, g, i, at_h.high, at_j.high),

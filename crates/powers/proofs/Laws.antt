@@ -1,8 +1,8 @@
 -- Four logarithms and exponentials from the first coefficients of a family; where four have no special case, none has. Assumes nothing.
-use mathlib.Core.Path.{_≡_, sym, ap, _∙_, subst}
+use mathlib.Core.Path.{_≡_, refl, sym, ap, _∙_, subst}
 use mathlib.Core.Bool.{true}
 use mathlib.Core.List.{List}
-use lib.Dec.{T}
+use lib.Dec.{T, lit≤}
 use lib.ListN.{take}
 use lib.Ieee.{Float, binary32, binary64, fits, mul}
 use lib.Ieee.Positive.{positive}
@@ -10,6 +10,7 @@ use Rattle.ieee.specs.Basic.{widenOf}
 use Rattle.ieee.proofs.Tests.{all-four}
 use Rattle.series.specs.Horner.{hornerOf}
 use Rattle.series.specs.Coefficients.{H, terms, oddReciprocal, factorialReciprocal}
+use Rattle.series.proofs.Families.{terms-take}
 use Rattle.lanes.specs.declared.Four.{Four}
 use Rattle.lanes.specs.declared.FourFloats.{FourFloats}
 use Rattle.lanes.specs.Lanes.{each, pairwise, pairwiseFloats, widened, narrowed}
@@ -27,22 +28,31 @@ pub split-at : (f e s u : Float) → s ≡ quotientOf f → lnAt f e ≡ lnOf u 
 unfolding lnAt
 split-at f e s u q is = ap (λ (x : Float). logOf x e (H oddReciprocal (mul binary64 x x) 11)) q ∙ is
 
-pub logs-by : (cs : List Float) (p : FourParts) (h x u : Four) → cs ≡ terms oddReciprocal 26 → x ≡ pairwise (mul binary64) (p .s) (p .s) → h ≡ each (hornerOf binary64 (take 12 cs)) x → Splits (p .s) (p .e) u → logsOf p h ≡ each lnOf u
-logs-by cs p h x u c squared is split =
-    let q : h ≡ each (hornerOf binary64 (take 12 cs)) (pairwise (mul binary64) (p .s) (p .s)) = is ∙ ap (λ (z : Four). each (hornerOf binary64 (take 12 cs)) z) squared in
-    four-by _ _ _ _ _ _ _ _
-    (ln-by (p .s .first) (p .e .first) cs (h .first) _ c (ap (λ (z : Four). z .first) q) (split .0))
-    (ln-by (p .s .second) (p .e .second) cs (h .second) _ c (ap (λ (z : Four). z .second) q) (split .1))
-    (ln-by (p .s .third) (p .e .third) cs (h .third) _ c (ap (λ (z : Four). z .third) q) (split .2))
-    (ln-by (p .s .fourth) (p .e .fourth) cs (h .fourth) _ c (ap (λ (z : Four). z .fourth) q) (split .3))
+-- the coefficients of ln and of exp are the first of their families
+pub first-odd : (cs : List Float) → cs ≡ terms oddReciprocal 26 → take 12 cs ≡ terms oddReciprocal 12
+first-odd cs e = ap (λ (l : List Float). take 12 l) e ∙ terms-take oddReciprocal 26 12 (lit≤ tt)
 
-pub exps-by : (cs : List Float) (h r power t : Four) → cs ≡ terms factorialReciprocal 16 → h ≡ each (hornerOf binary64 (take 14 cs)) r → Reduces r power t → pairwise (mul binary64) h power ≡ each expOf t
-exps-by cs h r power t c q is =
+pub first-factorial : (cs : List Float) → cs ≡ terms factorialReciprocal 16 → take 14 cs ≡ terms factorialReciprocal 14
+first-factorial cs e = ap (λ (l : List Float). take 14 l) e ∙ terms-take factorialReciprocal 16 14 (lit≤ tt)
+
+pub logs-by : (cs : List Float) (p : FourParts) (h x u : Four) → cs ≡ terms oddReciprocal 12 → x ≡ pairwise (mul binary64) (p .s) (p .s) → h ≡ each (hornerOf binary64 cs) x → Splits (p .s) (p .e) u → logsOf p h ≡ each lnOf u
+logs-by cs p h x u c squared is split =
+    let q : h ≡ each (hornerOf binary64 (take 12 (terms oddReciprocal 26))) (pairwise (mul binary64) (p .s) (p .s)) =
+    is ∙ ap (λ (z : Four). each (hornerOf binary64 cs) z) squared ∙ ap (λ (l : List Float). each (hornerOf binary64 l) (pairwise (mul binary64) (p .s) (p .s))) (c ∙ sym (first-odd _ refl)) in
     four-by _ _ _ _ _ _ _ _
-    (exp-by cs (h .first) (r .first) (power .first) _ c (ap (λ (x : Four). x .first) q) (is .0))
-    (exp-by cs (h .second) (r .second) (power .second) _ c (ap (λ (x : Four). x .second) q) (is .1))
-    (exp-by cs (h .third) (r .third) (power .third) _ c (ap (λ (x : Four). x .third) q) (is .2))
-    (exp-by cs (h .fourth) (r .fourth) (power .fourth) _ c (ap (λ (x : Four). x .fourth) q) (is .3))
+    (ln-by (p .s .first) (p .e .first) _ (h .first) _ refl (ap (λ (z : Four). z .first) q) (split .0))
+    (ln-by (p .s .second) (p .e .second) _ (h .second) _ refl (ap (λ (z : Four). z .second) q) (split .1))
+    (ln-by (p .s .third) (p .e .third) _ (h .third) _ refl (ap (λ (z : Four). z .third) q) (split .2))
+    (ln-by (p .s .fourth) (p .e .fourth) _ (h .fourth) _ refl (ap (λ (z : Four). z .fourth) q) (split .3))
+
+pub exps-by : (cs : List Float) (h r power t : Four) → cs ≡ terms factorialReciprocal 14 → h ≡ each (hornerOf binary64 cs) r → Reduces r power t → pairwise (mul binary64) h power ≡ each expOf t
+exps-by cs h r power t c is reduced =
+    let q : h ≡ each (hornerOf binary64 (take 14 (terms factorialReciprocal 16))) r = is ∙ ap (λ (l : List Float). each (hornerOf binary64 l) r) (c ∙ sym (first-factorial _ refl)) in
+    four-by _ _ _ _ _ _ _ _
+    (exp-by _ (h .first) (r .first) (power .first) _ refl (ap (λ (x : Four). x .first) q) (reduced .0))
+    (exp-by _ (h .second) (r .second) (power .second) _ refl (ap (λ (x : Four). x .second) q) (reduced .1))
+    (exp-by _ (h .third) (r .third) (power .third) _ refl (ap (λ (x : Four). x .third) q) (reduced .2))
+    (exp-by _ (h .fourth) (r .fourth) (power .fourth) _ refl (ap (λ (x : Four). x .fourth) q) (reduced .3))
 
 -- powers with no special case
 abbrev pub Plain : FourFloats → FourFloats → Type 0

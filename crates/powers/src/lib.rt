@@ -1,8 +1,10 @@
 // Eight or sixteen powers in step, each as exponential's `pow`. A power is a long chain of steps, each of which waits for the
 // one before; those of another power need not. Two calls for eight after each other do not overlap, so sixteen have functions of
-// their own.
+// their own. Eight are lent the coefficients of both series: where the compiler sees how many there are, it writes the steps out, one
+// pair of powers after the other, and the processor waits; from a loop over sixteen it keeps them side by side.
 ghost use mathlib.Core.Path.{_≡_};
 ghost use mathlib.Core.Bool.{true};
+ghost use Rattle.series.specs.Coefficients.{oddReciprocal, factorialReciprocal, terms};
 ghost use Rattle.lanes.specs.Lanes.{each, pairwiseFloats};
 ghost use Rattle.exponential.specs.Logarithm.{lnOf};
 ghost use Rattle.exponential.specs.Exponential.{expOf};
@@ -75,16 +77,15 @@ fn logs(p: FourParts, h: Four) -> Four
     }
 }
 
-fn ln(u: Four, v: Four) -> Eight
-    requires { ⌜ Regular u × Regular v ⌝ }
+fn ln(cs: &[f64], u: Four, v: Four) -> Eight
+    requires { ⌜ (now cs ≡ terms oddReciprocal 12) × Regular u × Regular v ⌝ }
     ensures { λ r. ⌜ (r .low ≡ each lnOf u) × (r .high ≡ each lnOf v) ⌝ }
 {
     let p = split(u);
     let q = split(v);
     let y = lanes::multiply(p.s, p.s);
     let z = lanes::multiply(q.s, q.s);
-    let c = series::odd_reciprocals();
-    let h = lanes::horner(&c[..12], y, z);
+    let h = lanes::horner(cs, y, z);
     Eight {
         low: logs(p, h.low),
         high: logs(q, h.high),
@@ -159,14 +160,14 @@ fn exp_each(t: Four) -> Four
     }
 }
 
-fn exp(t: Four, u: Four) -> Eight
+fn exp(cs: &[f64], t: Four, u: Four) -> Eight
+    requires { ⌜ now cs ≡ terms factorialReciprocal 14 ⌝ }
     ensures { λ r. ⌜ (r .low ≡ each expOf t) × (r .high ≡ each expOf u) ⌝ }
 {
     if all_moderate(t) & all_moderate(u) {
         let p = reduce(t);
         let q = reduce(u);
-        let c = series::factorial_reciprocals();
-        let h = lanes::horner(&c[..14], p.r, q.r);
+        let h = lanes::horner(cs, p.r, q.r);
         return Eight {
             low: lanes::multiply(h.low, p.power),
             high: lanes::multiply(h.high, q.power),
@@ -211,14 +212,21 @@ fn exp_two(t: Four, u: Four, v: Four, w: Four) -> Sixteen
     }
 }
 
-fn pow_main(b: FourFloats, y: FourFloats, c: FourFloats, z: FourFloats) -> EightFloats
-    requires { ⌜ AllPositive b × AllPositive c ⌝ }
+fn pow_main(
+    cs: &[f64],
+    ds: &[f64],
+    b: FourFloats,
+    y: FourFloats,
+    c: FourFloats,
+    z: FourFloats,
+) -> EightFloats
+    requires { ⌜ (now cs ≡ terms oddReciprocal 12) × (now ds ≡ terms factorialReciprocal 14) × AllPositive b × AllPositive c ⌝ }
     ensures { λ r. ⌜ (r .low ≡ pairwiseFloats mainOf b y) × (r .high ≡ pairwiseFloats mainOf c z) ⌝ }
 {
-    let l = ln(lanes::widen(b), lanes::widen(c));
+    let l = ln(cs, lanes::widen(b), lanes::widen(c));
     let t = lanes::multiply(lanes::widen(y), l.low);
     let u = lanes::multiply(lanes::widen(z), l.high);
-    let e = exp(t, u);
+    let e = exp(ds, t, u);
     EightFloats {
         low: lanes::narrow(e.low),
         high: lanes::narrow(e.high),
@@ -280,12 +288,20 @@ fn pow_each(b: FourFloats, y: FourFloats) -> FourFloats
 }
 
 // The powers of four bases b by the exponents y, and of four bases c by the exponents z. In step where none is a
-// special case.
-pub fn pow(b: FourFloats, y: FourFloats, c: FourFloats, z: FourFloats) -> EightFloats
+// special case. The coefficients cs are those of ln's series, ds those of exp's.
+pub fn pow(
+    cs: &[f64],
+    ds: &[f64],
+    b: FourFloats,
+    y: FourFloats,
+    c: FourFloats,
+    z: FourFloats,
+) -> EightFloats
+    requires { ⌜ (now cs ≡ terms oddReciprocal 12) × (now ds ≡ terms factorialReciprocal 14) ⌝ }
     ensures { λ r. ⌜ (r .low ≡ pairwiseFloats powOf b y) × (r .high ≡ pairwiseFloats powOf c z) ⌝ }
 {
     if all_plain(b, y) & all_plain(c, z) {
-        return pow_main(b, y, c, z);
+        return pow_main(cs, ds, b, y, c, z);
     }
     EightFloats {
         low: pow_each(b, y),
@@ -293,7 +309,7 @@ pub fn pow(b: FourFloats, y: FourFloats, c: FourFloats, z: FourFloats) -> EightF
     }
 }
 
-// As `pow`, and of four bases d by the exponents v, and of four bases e by the exponents w.
+// The same, and of four bases d by the exponents v, and of four bases e by the exponents w.
 pub fn pow_two(
     b: FourFloats,
     y: FourFloats,

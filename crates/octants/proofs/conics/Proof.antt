@@ -1,9 +1,16 @@
-use mathlib.Core.Path.{_≡_}
+use mathlib.Core.Path.{_≡_, sym, ap, _∙_, subst}
+use mathlib.Core.List.{List}
+use Prim.Native.Nat.{ℕ, _≤_}
+use lib.Dec.{lit≤}
+use lib.ListN.{length}
 use lib.Ieee.{Float}
 use borrow.Author.Needs.{needs}
 use Rattle.octants.proofs.conics.Statement.{statement}
 use Rattle.octants.proofs.conics.Tie as tie
 use Rattle.geometry.specs.Point.{one}
+use Rattle.series.specs.Coefficients.{terms}
+use Rattle.series.proofs.Families.{length-terms}
+use Rattle.powers.proofs.Laws.{first-odd, first-factorial}
 use Rattle.lanes.specs.Lanes.{eachFloat, pairwiseFloats}
 use Rattle.lanes.specs.declared.FourFloats.{FourFloats}
 use Rattle.exponential.specs.Power.{powOf}
@@ -37,6 +44,16 @@ in-step : (o : FourOctants) (n : FourFloats) (f : FourFactors) (y powers less : 
 unfolding superellipseConicsOf
 in-step o n f y powers less j slopes atJ rests inverses roots h slants atH r e1 e2 e3 e4 e5 e6 e7 e8 e9 e10 e11 e12 e13 e14 e15 =
     rw (e15, e14, e13, e12, e11, e10, e9, e8, e7, e6, e5, e4, e3, e2, e1)
+
+-- a family of n has its first m
+enough : (cs : List Float) (f : ℕ → Float) (n m : ℕ) → cs ≡ terms f n → m ≤ n → m ≤ length cs
+enough cs f n m e h = subst (λ (k : ℕ). m ≤ k) (sym (ap length e ∙ length-terms f n)) h
+
+odd-reciprocals-requires : tie.Need-odd-reciprocals-requires
+odd-reciprocals-requires c κs = search needs
+
+factorial-reciprocals-requires : tie.Need-factorial-reciprocals-requires
+factorial-reciprocals-requires c κs = search needs
 
 degrees-requires : tie.Need-degrees-requires
 degrees-requires c κs = search needs
@@ -77,6 +94,20 @@ ratios-requires-2 c κs = search needs
 pow-two-requires : tie.Need-pow-two-requires
 pow-two-requires c κs = search needs
 
+array-share-prefix-odd : tie.Need-array-share-prefix-odd
+array-share-prefix-odd c = enough _ _ 26 12 (c .before .before .before .before .before .before .before .before .before .before .before .before .before .before .before .before .odd-reciprocals .ensures) (lit≤ tt)
+
+slice-aggregate-pow : tie.Need-slice-aggregate-pow
+unfolding terms
+slice-aggregate-pow c = rw (c .before .before .before .before .before .before .before .before .before .before .before .before .before .before .before .before .before .odd-reciprocals .ensures)
+
+array-share-prefix-inverse : tie.Need-array-share-prefix-inverse
+array-share-prefix-inverse c = enough _ _ 16 14 (c .before .before .before .before .before .before .before .before .before .before .before .before .before .before .before .before .factorial-reciprocals .ensures) (lit≤ tt)
+
+slice-aggregate-pow-2 : tie.Need-slice-aggregate-pow-2
+unfolding terms
+slice-aggregate-pow-2 c = rw (c .before .before .before .before .before .before .before .before .before .before .before .before .before .before .before .before .before .factorial-reciprocals .ensures)
+
 complements-requires : tie.Need-complements-requires
 complements-requires c κs = search needs
 
@@ -90,13 +121,27 @@ reciprocals-requires-2 : tie.Need-reciprocals-requires-2
 reciprocals-requires-2 c κs = search needs
 
 pow-requires : tie.Need-pow-requires
-pow-requires c κs = search needs
+pow-requires c κs = (first-odd _ (c .before .before .before .before .before .before .before .before .before .before .before .before .before .before .before .before .before .before .before .before .before .before .odd-reciprocals .ensures), first-factorial _ (c .before .before .before .before .before .before .before .before .before .before .before .before .before .before .before .before .before .before .before .before .before .factorial-reciprocals .ensures))
 
 four-met-requires : tie.Need-four-met-requires
 four-met-requires c κs = search needs
 
 four-met-requires-2 : tie.Need-four-met-requires-2
 four-met-requires-2 c κs = search needs
+
+array-share-prefix-odd-2 : tie.Need-array-share-prefix-odd-2
+array-share-prefix-odd-2 c = enough _ _ 26 12 (c .before .before .before .before .before .before .before .before .before .before .before .before .before .before .before .before .before .before .before .before .before .before .before .before .before .odd-reciprocals .ensures) (lit≤ tt)
+
+slice-aggregate-pow-3 : tie.Need-slice-aggregate-pow-3
+unfolding terms
+slice-aggregate-pow-3 c = rw (c .before .before .before .before .before .before .before .before .before .before .before .before .before .before .before .before .before .before .before .before .before .before .before .before .before .before .odd-reciprocals .ensures)
+
+array-share-prefix-inverse-2 : tie.Need-array-share-prefix-inverse-2
+array-share-prefix-inverse-2 c = enough _ _ 16 14 (c .before .before .before .before .before .before .before .before .before .before .before .before .before .before .before .before .before .before .before .before .before .before .before .before .before .factorial-reciprocals .ensures) (lit≤ tt)
+
+slice-aggregate-pow-4 : tie.Need-slice-aggregate-pow-4
+unfolding terms
+slice-aggregate-pow-4 c = rw (c .before .before .before .before .before .before .before .before .before .before .before .before .before .before .before .before .before .before .before .before .before .before .before .before .before .before .factorial-reciprocals .ensures)
 
 ratios-requires-3 : tie.Need-ratios-requires-3
 ratios-requires-3 c κs = search needs
@@ -105,7 +150,7 @@ ratios-requires-4 : tie.Need-ratios-requires-4
 ratios-requires-4 c κs = search needs
 
 pow-requires-2 : tie.Need-pow-requires-2
-pow-requires-2 c κs = search needs
+pow-requires-2 c κs = (first-odd _ (c .before .before .before .before .before .before .before .before .before .before .before .before .before .before .before .before .before .before .before .before .before .before .before .before .before .before .before .before .before .odd-reciprocals .ensures), first-factorial _ (c .before .before .before .before .before .before .before .before .before .before .before .before .before .before .before .before .before .before .before .before .before .before .before .before .before .before .before .before .factorial-reciprocals .ensures))
 
 four-joined-requires : tie.Need-four-joined-requires
 four-joined-requires c κs = search needs
@@ -115,14 +160,16 @@ four-joined-requires-2 c κs = search needs
 
 returns : tie.Need-returns
 returns c = (
-  in-step _ _ _ _ _ _ _ _ _ _ _ _ _ _ _ _ (c .before .before .before .before .before .before .before .before .before .before .before .before .before .before .before .before .before .before .before .before .before .before .before .before .before .before .degrees .ensures) (c .before .before .before .before .before .before .before .before .before .before .before .before .before .before .before .before .before .before .before .before .before .before .before .before .four-factors .ensures) (c .before .before .before .before .before .before .before .before .before .before .before .before .before .before .before .before .before .before .before .before .before .before .four-heights .ensures) (c .before .before .before .before .before .before .before .before .before .before .before .before .before .before .pow-two .ensures .0) (c .before .before .before .before .before .before .before .before .before .before .before .before .before .before .before .before .before .before .before .before .less-one .ensures) (c .before .before .before .before .before .before .before .before .before .before .before .before .before .before .before .before .before .before .starts .ensures) (c .before .before .before .before .before .before .before .before .before .before .before .before .before .before .before .before .before .ratios .ensures) (c .before .before .before .before .before .before .before .before .before .before .before .before .before .before .pow-two .ensures .2) (c .before .before .before .before .before .before .before .before .before .before .before .complements .ensures) (c .before .before .before .before .before .before .before .before .before .before .reciprocals .ensures) (c .before .before .before .before .before .before .before .pow .ensures .0) (c .before .before .before .before .before .before .four-met .ensures) (c .before .before .before .before .ratios3 .ensures) (c .before .before .pow2 .ensures .0) (c .before .four-joined .ensures),
-  in-step _ _ _ _ _ _ _ _ _ _ _ _ _ _ _ _ (c .before .before .before .before .before .before .before .before .before .before .before .before .before .before .before .before .before .before .before .before .before .before .before .before .before .degrees2 .ensures) (c .before .before .before .before .before .before .before .before .before .before .before .before .before .before .before .before .before .before .before .before .before .before .before .four-factors2 .ensures) (c .before .before .before .before .before .before .before .before .before .before .before .before .before .before .before .before .before .before .before .before .before .four-heights2 .ensures) (c .before .before .before .before .before .before .before .before .before .before .before .before .before .before .pow-two .ensures .1) (c .before .before .before .before .before .before .before .before .before .before .before .before .before .before .before .before .before .before .before .less-one2 .ensures) (c .before .before .before .before .before .before .before .before .before .before .before .before .before .before .before .before .starts2 .ensures) (c .before .before .before .before .before .before .before .before .before .before .before .before .before .before .before .ratios2 .ensures) (c .before .before .before .before .before .before .before .before .before .before .before .before .before .before .pow-two .ensures .3) (c .before .before .before .before .before .before .before .before .before .complements2 .ensures) (c .before .before .before .before .before .before .before .before .reciprocals2 .ensures) (c .before .before .before .before .before .before .before .pow .ensures .1) (c .before .before .before .before .before .four-met2 .ensures) (c .before .before .before .ratios4 .ensures) (c .before .before .pow2 .ensures .1) (c .four-joined2 .ensures),
+  in-step _ _ _ _ _ _ _ _ _ _ _ _ _ _ _ _ (c .before .before .before .before .before .before .before .before .before .before .before .before .before .before .before .before .before .before .before .before .before .before .before .before .before .before .before .before .before .before .degrees .ensures) (c .before .before .before .before .before .before .before .before .before .before .before .before .before .before .before .before .before .before .before .before .before .before .before .before .before .before .before .before .four-factors .ensures) (c .before .before .before .before .before .before .before .before .before .before .before .before .before .before .before .before .before .before .before .before .before .before .before .before .before .before .four-heights .ensures) (c .before .before .before .before .before .before .before .before .before .before .before .before .before .before .before .before .before .before .pow-two .ensures .0) (c .before .before .before .before .before .before .before .before .before .before .before .before .before .before .before .before .before .before .before .before .before .before .before .before .less-one .ensures) (c .before .before .before .before .before .before .before .before .before .before .before .before .before .before .before .before .before .before .before .before .before .before .starts .ensures) (c .before .before .before .before .before .before .before .before .before .before .before .before .before .before .before .before .before .before .before .before .before .ratios .ensures) (c .before .before .before .before .before .before .before .before .before .before .before .before .before .before .before .before .before .before .pow-two .ensures .2) (c .before .before .before .before .before .before .before .before .before .before .before .before .before .complements .ensures) (c .before .before .before .before .before .before .before .before .before .before .before .before .reciprocals .ensures) (c .before .before .before .before .before .before .before .before .before .pow .ensures .0) (c .before .before .before .before .before .before .before .before .four-met .ensures) (c .before .before .before .before .ratios3 .ensures) (c .before .before .pow2 .ensures .0) (c .before .four-joined .ensures),
+  in-step _ _ _ _ _ _ _ _ _ _ _ _ _ _ _ _ (c .before .before .before .before .before .before .before .before .before .before .before .before .before .before .before .before .before .before .before .before .before .before .before .before .before .before .before .before .before .degrees2 .ensures) (c .before .before .before .before .before .before .before .before .before .before .before .before .before .before .before .before .before .before .before .before .before .before .before .before .before .before .before .four-factors2 .ensures) (c .before .before .before .before .before .before .before .before .before .before .before .before .before .before .before .before .before .before .before .before .before .before .before .before .before .four-heights2 .ensures) (c .before .before .before .before .before .before .before .before .before .before .before .before .before .before .before .before .before .before .pow-two .ensures .1) (c .before .before .before .before .before .before .before .before .before .before .before .before .before .before .before .before .before .before .before .before .before .before .before .less-one2 .ensures) (c .before .before .before .before .before .before .before .before .before .before .before .before .before .before .before .before .before .before .before .before .starts2 .ensures) (c .before .before .before .before .before .before .before .before .before .before .before .before .before .before .before .before .before .before .before .ratios2 .ensures) (c .before .before .before .before .before .before .before .before .before .before .before .before .before .before .before .before .before .before .pow-two .ensures .3) (c .before .before .before .before .before .before .before .before .before .before .before .complements2 .ensures) (c .before .before .before .before .before .before .before .before .before .before .reciprocals2 .ensures) (c .before .before .before .before .before .before .before .before .before .pow .ensures .1) (c .before .before .before .before .before .before .before .four-met2 .ensures) (c .before .before .before .ratios4 .ensures) (c .before .before .pow2 .ensures .1) (c .four-joined2 .ensures),
 )
 
 pub conics-spec : {M : Type 1} → statement M
 conics-spec =
     tie.close
     (tie.spec
+    odd-reciprocals-requires
+    factorial-reciprocals-requires
     degrees-requires
     degrees-requires-2
     four-factors-requires
@@ -136,6 +183,10 @@ conics-spec =
     starts-requires-2
     ratios-requires-2
     pow-two-requires
+    array-share-prefix-odd
+    slice-aggregate-pow
+    array-share-prefix-inverse
+    slice-aggregate-pow-2
     complements-requires
     reciprocals-requires
     complements-requires-2
@@ -143,6 +194,10 @@ conics-spec =
     pow-requires
     four-met-requires
     four-met-requires-2
+    array-share-prefix-odd-2
+    slice-aggregate-pow-3
+    array-share-prefix-inverse-2
+    slice-aggregate-pow-4
     ratios-requires-3
     ratios-requires-4
     pow-requires-2

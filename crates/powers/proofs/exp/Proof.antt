@@ -1,5 +1,4 @@
 use mathlib.Core.Path.{sym, _∙_}
-use Rattle.series.specs.Coefficients.{terms}
 use Rattle.ieee.proofs.Tests.{both}
 use Rattle.powers.proofs.Laws.{exps-by}
 use borrow.Author.Needs.{needs}
@@ -18,16 +17,6 @@ reduce-requires c κs = sym (c .before .before .all-moderate .ensures) ∙ both 
 reduce-requires-2 : tie.Need-reduce-requires-2
 reduce-requires-2 c κs = sym (c .before .before .all-moderate2 .ensures) ∙ both (c .before .before .before .all-moderate .result) (c .before .before .all-moderate2 .result) (c .before .if1 .taken) .1
 
-factorial-reciprocals-requires : tie.Need-factorial-reciprocals-requires
-factorial-reciprocals-requires c κs = search needs
-
-array-share-prefix-c : tie.Need-array-share-prefix-c
-array-share-prefix-c c = search needs
-
-slice-aggregate-horner : tie.Need-slice-aggregate-horner
-unfolding terms
-slice-aggregate-horner c = rw (c .before .factorial-reciprocals .ensures)
-
 horner-requires : tie.Need-horner-requires
 horner-requires c κs = search needs
 
@@ -39,10 +28,10 @@ multiply-requires-2 c κs = search needs
 
 returns : tie.Need-returns
 returns c =
-    let cs = c .before .before .before .before .factorial-reciprocals .ensures in
+    let cs = c .before .before .before .before .before .before .before .before .before .pre in
     let h = c .before .before .horner .ensures in (
-      c .before .multiply .ensures ∙ exps-by _ _ _ _ _ cs (h .0) (c .before .before .before .before .before .before .reduce .ensures),
-      c .multiply2 .ensures ∙ exps-by _ _ _ _ _ cs (h .1) (c .before .before .before .before .before .reduce2 .ensures),
+      c .before .multiply .ensures ∙ exps-by _ _ _ _ _ cs (h .0) (c .before .before .before .before .reduce .ensures),
+      c .multiply2 .ensures ∙ exps-by _ _ _ _ _ cs (h .1) (c .before .before .before .reduce2 .ensures),
     )
 
 exp-each-requires : tie.Need-exp-each-requires
@@ -62,9 +51,6 @@ exp-spec =
     all-moderate-requires-2
     reduce-requires
     reduce-requires-2
-    factorial-reciprocals-requires
-    array-share-prefix-c
-    slice-aggregate-horner
     horner-requires
     multiply-requires
     multiply-requires-2

@@ -2,7 +2,7 @@ use mathlib.Core.Path.{_≡_, sym, _∙_}
 use mathlib.Core.Bool.{true}
 use Rattle.series.specs.Coefficients.{terms}
 use Rattle.ieee.proofs.Tests.{all-four}
-use Rattle.powers.proofs.Laws.{exps-by}
+use Rattle.powers.proofs.Laws.{first-factorial, exps-by}
 use borrow.Author.Needs.{needs}
 use Rattle.powers.proofs.exp_two.Statement.{statement}
 use Rattle.powers.proofs.exp_two.Tie as tie
@@ -62,7 +62,7 @@ multiply-requires-4 c κs = search needs
 
 returns : tie.Need-returns
 returns c =
-    let cs = c .before .before .before .before .before .before .factorial-reciprocals .ensures in
+    let cs = first-factorial _ (c .before .before .before .before .before .before .factorial-reciprocals .ensures) in
     let h = c .before .before .before .before .horner-two .ensures in (
       c .before .before .before .multiply .ensures ∙ exps-by _ _ _ _ _ cs (h .0) (c .before .before .before .before .before .before .before .before .before .before .reduce .ensures),
       c .before .before .multiply2 .ensures ∙ exps-by _ _ _ _ _ cs (h .1) (c .before .before .before .before .before .before .before .before .before .reduce2 .ensures),

@@ -1,5 +1,4 @@
 use mathlib.Core.Path.{_∙_}
-use Rattle.series.specs.Coefficients.{terms}
 use Rattle.powers.proofs.Laws.{logs-by}
 use borrow.Author.Needs.{needs}
 use Rattle.powers.proofs.ln.Statement.{statement}
@@ -17,16 +16,6 @@ multiply-requires c κs = search needs
 multiply-requires-2 : tie.Need-multiply-requires-2
 multiply-requires-2 c κs = search needs
 
-odd-reciprocals-requires : tie.Need-odd-reciprocals-requires
-odd-reciprocals-requires c κs = search needs
-
-array-share-prefix-c : tie.Need-array-share-prefix-c
-array-share-prefix-c c = search needs
-
-slice-aggregate-horner : tie.Need-slice-aggregate-horner
-unfolding terms
-slice-aggregate-horner c = rw (c .before .odd-reciprocals .ensures)
-
 horner-requires : tie.Need-horner-requires
 horner-requires c κs = search needs
 
@@ -38,12 +27,12 @@ logs-requires-2 c κs = search needs
 
 returns : tie.Need-returns
 returns c =
-    let cs = c .before .before .before .before .odd-reciprocals .ensures in
-    let p = c .before .before .before .before .before .before .before .before .split in
-    let q = c .before .before .before .before .before .before .before .split2 in
+    let cs = c .before .before .before .before .before .before .before .before .pre .0 in
+    let p = c .before .before .before .before .before .before .split in
+    let q = c .before .before .before .before .before .split2 in
     let h = c .before .before .horner .ensures in (
-      c .before .logs .ensures ∙ logs-by _ (p .result) _ _ _ cs (c .before .before .before .before .before .before .multiply .ensures) (h .0) (p .ensures),
-      c .logs2 .ensures ∙ logs-by _ (q .result) _ _ _ cs (c .before .before .before .before .before .multiply2 .ensures) (h .1) (q .ensures),
+      c .before .logs .ensures ∙ logs-by _ (p .result) _ _ _ cs (c .before .before .before .before .multiply .ensures) (h .0) (p .ensures),
+      c .logs2 .ensures ∙ logs-by _ (q .result) _ _ _ cs (c .before .before .before .multiply2 .ensures) (h .1) (q .ensures),
     )
 
 pub ln-spec : {M : Type 1} → statement M
@@ -54,9 +43,6 @@ ln-spec =
     split-requires-2
     multiply-requires
     multiply-requires-2
-    odd-reciprocals-requires
-    array-share-prefix-c
-    slice-aggregate-horner
     horner-requires
     logs-requires
     logs-requires-2

@@ -1,6 +1,6 @@
 use mathlib.Core.Path.{_∙_}
 use Rattle.series.specs.Coefficients.{terms}
-use Rattle.powers.proofs.Laws.{logs-by}
+use Rattle.powers.proofs.Laws.{first-odd, logs-by}
 use borrow.Author.Needs.{needs}
 use Rattle.powers.proofs.ln_two.Statement.{statement}
 use Rattle.powers.proofs.ln_two.Tie as tie
@@ -56,7 +56,7 @@ logs-requires-4 c κs = search needs
 
 returns : tie.Need-returns
 returns c =
-    let cs = c .before .before .before .before .before .before .odd-reciprocals .ensures in
+    let cs = first-odd _ (c .before .before .before .before .before .before .odd-reciprocals .ensures) in
     let p = c .before .before .before .before .before .before .before .before .before .before .before .before .before .before .split in
     let q = c .before .before .before .before .before .before .before .before .before .before .before .before .before .split2 in
     let r = c .before .before .before .before .before .before .before .before .before .before .before .before .split3 in

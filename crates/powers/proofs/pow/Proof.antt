@@ -14,7 +14,7 @@ all-plain-requires-2 c κs = search needs
 -- all eight have no special case
 module _ (c : tie.Then1) where
   abbrev start : tie.Start
-  start = c .before .before .before
+  start = c .before .before .before .before .before
 
   plain1 : Plain (start .args .b) (start .args .y)
   plain1 = plain-are (start .args .b) (start .args .y) (sym (c .before .before .all-plain .ensures) ∙ both (c .before .before .all-plain .result) (c .before .all-plain2 .result) (c .if1 .taken) .0)
@@ -23,7 +23,7 @@ module _ (c : tie.Then1) where
   plain2 = plain-are (start .args .c) (start .args .z) (sym (c .before .all-plain2 .ensures) ∙ both (c .before .before .all-plain .result) (c .before .all-plain2 .result) (c .if1 .taken) .1)
 
 pow-main-requires : tie.Need-pow-main-requires
-pow-main-requires c κs = (plain1 c .0, plain2 c .0)
+pow-main-requires c κs = (start c .pre .0, start c .pre .1, plain1 c .0, plain2 c .0)
 
 returns : tie.Need-returns
 returns c = (c .pow-main .ensures .0 ∙ sym (plain1 (c .before) .1), c .pow-main .ensures .1 ∙ sym (plain2 (c .before) .1))

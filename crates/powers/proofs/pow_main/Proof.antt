@@ -12,9 +12,10 @@ widen-requires-2 c κs = search needs
 
 ln-requires : tie.Need-ln-requires
 ln-requires c κs =
-    let s = c .before .before in (
-      regular _ _ (c .before .widen .ensures) (s .good .0 .1 .1 .0 .1) (s .good .0 .1 .1 .1 .0 .1) (s .good .0 .1 .1 .1 .1 .0 .1) (s .good .0 .1 .1 .1 .1 .1 .0 .1) (s .pre .0),
-      regular _ _ (c .widen2 .ensures) (s .good .1 .1 .0 .1 .1 .0 .1) (s .good .1 .1 .0 .1 .1 .1 .0 .1) (s .good .1 .1 .0 .1 .1 .1 .1 .0 .1) (s .good .1 .1 .0 .1 .1 .1 .1 .1 .0 .1) (s .pre .1),
+    let s = c .before .before .before .before in (
+      s .pre .0,
+      regular _ _ (c .before .widen .ensures) (s .good .1 .1 .0 .1 .1 .0 .1) (s .good .1 .1 .0 .1 .1 .1 .0 .1) (s .good .1 .1 .0 .1 .1 .1 .1 .0 .1) (s .good .1 .1 .0 .1 .1 .1 .1 .1 .0 .1) (s .pre .2),
+      regular _ _ (c .widen2 .ensures) (s .good .1 .1 .1 .1 .0 .1 .1 .0 .1) (s .good .1 .1 .1 .1 .0 .1 .1 .1 .0 .1) (s .good .1 .1 .1 .1 .0 .1 .1 .1 .1 .0 .1) (s .good .1 .1 .1 .1 .0 .1 .1 .1 .1 .1 .0 .1) (s .pre .3),
     )
 
 widen-requires-3 : tie.Need-widen-requires-3
