@@ -1,6 +1,7 @@
 // Points of the plane and their arithmetic in binary32: document 01's rules for the Rust's Vec2.
 // Every operation is rounded once, in the order written.
 ghost use mathlib.Core.Path.{_≡_};
+ghost use Rattle.ieee.specs.Basic.{absOf};
 ghost use Rattle.geometry.specs.Point.{addOf, subOf, mulOf, divOf, scaleOf, shrinkOf, negOf, absPoint, finitePoint, lengthSquaredOf, distanceSquaredOf, lengthOf, normalizeOf};
 
 pub struct Point {
@@ -69,12 +70,24 @@ pub fn neg(p: Point) -> Point
     Point { x: -p.x, y: -p.y }
 }
 
+// As ieee's `abs`, by the greater of x and 0 - x: a processor takes the greater of both coordinates at once, and a NaN is not
+// set apart.
+fn magnitude(x: f32) -> f32
+    ensures { λ r. ⌜ r ≡ absOf x ⌝ }
+{
+    let opposite = 0.0 - x;
+    if opposite < x {
+        return x;
+    }
+    opposite
+}
+
 pub fn abs(p: Point) -> Point
     ensures { λ r. ⌜ r ≡ absPoint p ⌝ }
 {
     Point {
-        x: ieee::abs(p.x),
-        y: ieee::abs(p.y),
+        x: magnitude(p.x),
+        y: magnitude(p.y),
     }
 }
 

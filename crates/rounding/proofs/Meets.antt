@@ -30,7 +30,7 @@ narrow-rounded (inf s) t = absurd t
 narrow-rounded (fin s m e) t = round-rounded binary32 (m * up e) (down e) (down-pos e) s
 
 -- ---- a value of the format is rounded to itself
-round-own : (f : Format) (s : Bool) (m : ℕ) (e : ℤ) → T (fits f (fin s m e)) → round f s (m * up e) (down e) ≡ fin s m e
+pub round-own : (f : Format) (s : Bool) (m : ℕ) (e : ℤ) → T (fits f (fin s m e)) → round f s (m * up e) (down e) ≡ fin s m e
 round-own f s m e h =
     let d = in-units f (fin s m e) h tt in
     let w = d .0 * 2 ^ d .1 in
