@@ -1,4 +1,4 @@
--- Tests that all say yes. Assumes nothing.
+-- Tests that are joined: what each says where all say yes, and what they say by what each says. Assumes nothing.
 use mathlib.Core.Path.{_≡_, refl, sym}
 use mathlib.Core.Bool.{Bool, true, false, _&&_, true≢false}
 
@@ -12,3 +12,6 @@ all-four a b c d h =
     let abc = both (a && b && c) d h in
     let ab = both (a && b) c (abc .0) in
     (both a b (ab .0) .0, both a b (ab .0) .1, ab .1, abc .1)
+
+pub tests-by : (a b c d e f g h : Bool) → a ≡ e → b ≡ f → c ≡ g → d ≡ h → (a && b && c && d) ≡ (e && f && g && h)
+tests-by a b c d e f g h p q r s = rw (p, q, r, s)

@@ -3,12 +3,13 @@
 mod cubic;
 
 ghost use mathlib.Core.Path.{_≡_};
+ghost use mathlib.Core.Bool.{true};
 ghost use Prim.Native.Nat.{ℕ, _+_, _*_, _-_, _/_, _%_, _^_, _<_, _≤_};
 ghost use lib.Ieee.Nearest.{closest};
 ghost use lib.Ieee.Scale.{finite};
 ghost use lib.Ieee.{binary32, toBits};
 ghost use Rattle.ieee.specs.Basic.{widenOf, absOf, minOf, maxOf, clampOf};
-ghost use Rattle.ieee.specs.Narrow.{narrowOf, patternOf};
+ghost use Rattle.ieee.specs.Narrow.{narrowOf, patternOf, regular};
 ghost use Rattle.ieee.specs.Sqrt.{rootOf, sqrtOf};
 
 pub fn widen(x: f32) -> f64
@@ -105,14 +106,22 @@ fn pattern(e: u64, d: u64) -> u64
     0
 }
 
-// The pattern of the f32 nearest to the f64 with the pattern a, both without their signs. Where both are normal the pattern
-// itself is rounded: a carry out of the digits is one more in the exponent.
+// `rounded`, where the f64 is at least the least normal f32 and below 2^128. The pattern itself is rounded: a carry out of the
+// digits is one more in the exponent, and one out of the largest exponent makes the infinity's pattern.
+fn rounded_regular(a: u64) -> u64
+    requires { ⌜ (0x3810_0000_0000_0000 ≤ a) × (a < 0x47f0_0000_0000_0000) ⌝ }
+    ensures { λ r. ⌜ r ≡ patternOf (a / 2 ^ 52) (a % 2 ^ 52 + 2 ^ 52) ⌝ }
+{
+    ((a + 0xfff_ffff + (a >> 29) % 2) >> 29) - 0x1_c000_0000
+}
+
+// The pattern of the f32 nearest to the f64 with the pattern a, both without their signs.
 fn rounded(a: u64) -> u64
     requires { ⌜ a < 2 ^ 63 ⌝ }
     ensures { λ r. ⌜ r ≡ patternOf (a / 2 ^ 52) (a % 2 ^ 52 + 2 ^ 52) ⌝ }
 {
     if std::num::wrapping_sub_u64(a, 0x3810_0000_0000_0000) < 0xfe0_0000_0000_0000 {
-        return ((a + 0xfff_ffff + (a >> 29) % 2) >> 29) - 0x1_c000_0000;
+        return rounded_regular(a);
     }
     pattern(a >> 52, a % 0x10_0000_0000_0000 + 0x10_0000_0000_0000)
 }
@@ -125,6 +134,25 @@ pub fn narrow(x: f64) -> f32
     }
     let bits: u64 = f64::to_bits(x);
     let p = rounded(bits % 0x8000_0000_0000_0000);
+    f32::from_bits(((bits >> 63) * 0x8000_0000 + p) as u32)
+}
+
+// Whether the f32 nearest to x is told by rounding x's pattern: x is from 2^-126, the least normal f32, to below 2^128 in
+// size. So no NaN is, and no infinity. The tests are joined by & and |, which do not branch.
+pub fn is_regular(x: f64) -> bool
+    ensures { λ r. ⌜ r ≡ regular x ⌝ }
+{
+    let normal = (1.1754943508222875e-38 <= x) | (x <= -1.1754943508222875e-38);
+    normal & (x < 3.402823669209385e38) & (-3.402823669209385e38 < x)
+}
+
+// `narrow` of such a number: no branch, so that several go side by side.
+pub fn narrow_regular(x: f64) -> f32
+    requires { ⌜ regular x ≡ true ⌝ }
+    ensures { λ r. ⌜ r ≡ narrowOf x ⌝ }
+{
+    let bits: u64 = f64::to_bits(x);
+    let p = rounded_regular(bits % 0x8000_0000_0000_0000);
     f32::from_bits(((bits >> 63) * 0x8000_0000 + p) as u32)
 }
 

@@ -1,7 +1,8 @@
 -- Four numbers side by side, each treated alike. Definitions only.
+use mathlib.Core.Bool.{Bool, _&&_}
 use lib.Ieee.{Float, binary64, add, mul}
 use Rattle.ieee.specs.Basic.{widenOf}
-use Rattle.ieee.specs.Narrow.{narrowOf}
+use Rattle.ieee.specs.Narrow.{narrowOf, regular}
 use Rattle.lanes.specs.declared.Four.{Four}
 use Rattle.lanes.specs.declared.FourFloats.{FourFloats}
 
@@ -28,6 +29,10 @@ widened x = record { first = widenOf (x .first); second = widenOf (x .second); t
 
 abbrev pub narrowed : Four → FourFloats
 narrowed x = record { first = narrowOf (x .first); second = narrowOf (x .second); third = narrowOf (x .third); fourth = narrowOf (x .fourth) }
+
+-- whether each is one that `regular` tells
+abbrev pub allRegular : Four → Bool
+allRegular x = regular (x .first) && regular (x .second) && regular (x .third) && regular (x .fourth)
 
 -- one step of Horner's scheme
 abbrev pub stepOf : Float → Float → Float → Float

@@ -3,7 +3,7 @@
 ghost use mathlib.Core.Path.{_≡_};
 ghost use lib.Ieee.{binary64, mul};
 ghost use Rattle.series.specs.Horner.{hornerOf};
-ghost use Rattle.lanes.specs.Lanes.{alikeOf, each, pairwise, stepOf, widened, narrowed};
+ghost use Rattle.lanes.specs.Lanes.{alikeOf, each, pairwise, stepOf, widened, narrowed, allRegular};
 
 pub struct Four {
     pub first: f64,
@@ -45,9 +45,25 @@ pub fn widen(x: FourFloats) -> Four
     }
 }
 
+fn all_regular(x: Four) -> bool
+    ensures { λ r. ⌜ r ≡ allRegular x ⌝ }
+{
+    let low = ieee::is_regular(x.first) & ieee::is_regular(x.second);
+    low & ieee::is_regular(x.third) & ieee::is_regular(x.fourth)
+}
+
+// One test tells whether all four are regular, the usual case. Then none of them branches, and a processor rounds them at once.
 pub fn narrow(x: Four) -> FourFloats
     ensures { λ r. ⌜ r ≡ narrowed x ⌝ }
 {
+    if all_regular(x) {
+        return FourFloats {
+            first: ieee::narrow_regular(x.first),
+            second: ieee::narrow_regular(x.second),
+            third: ieee::narrow_regular(x.third),
+            fourth: ieee::narrow_regular(x.fourth),
+        };
+    }
     FourFloats {
         first: ieee::narrow(x.first),
         second: ieee::narrow(x.second),
