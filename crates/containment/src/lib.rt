@@ -7,7 +7,7 @@ ghost use Rattle.ieee.specs.Basic.{absOf};
 ghost use Rattle.octant.specs.Binary32.{zero};
 ghost use Rattle.octant.specs.Octant.{point};
 ghost use Rattle.containment.specs.Contains.{octantContainsOf, within, squareContains, roundContains, squareCorner, normContains, cornerContainsOf, containsOf};
-ghost use Rattle.containment.specs.Parts.{inSuperellipse, asksPowers, arcAnswerOf};
+ghost use Rattle.containment.specs.Parts.{inSuperellipse, asksPowers};
 ghost use Rattle.containment.specs.Arcs.{beyondCircle, arcsOf, beyondArcs, missesOf, arcsIn};
 use geometry::Point;
 use octant::Octant;
@@ -60,35 +60,6 @@ pub fn octant_contains(param: Octant, p: Point) -> bool
     geometry::length_squared(geometry::sub(p, param.circle_center)) < circle_radius
 }
 
-// What an octant says of a point before any power is worked out; asked, its superellipse decides.
-pub enum ArcAnswer {
-    Inside,
-    Outside,
-    Asked,
-}
-
-fn arc_answer(param: Octant, p: Point) -> ArcAnswer
-    ensures { λ r. ⌜ r ≡ arcAnswerOf param p ⌝ }
-{
-    if p.x < 0.0 {
-        return ArcAnswer::Inside;
-    }
-    if p.y < 0.0 {
-        return ArcAnswer::Inside;
-    }
-    if p.y < p.x {
-        return ArcAnswer::Inside;
-    }
-    if p.x <= param.circle_start.x {
-        return ArcAnswer::Asked;
-    }
-    let radius = geometry::distance_squared(param.circle_start, param.circle_center);
-    if geometry::length_squared(geometry::sub(p, param.circle_center)) < radius {
-        return ArcAnswer::Inside;
-    }
-    ArcAnswer::Outside
-}
-
 // A square corner owns its top and left borders, where the scale is negative, but not its bottom and right ones.
 fn is_within(delta: f32, scale: f32) -> bool
     ensures { λ r. ⌜ r ≡ within delta scale ⌝ }
@@ -125,37 +96,6 @@ fn round_contains(param: Quadrant, norm_point: Point) -> bool
         return false;
     }
     octant_contains(param.top, from_top) && octant_contains(param.right, flipped)
-}
-
-// The same, to be called from one place and compiled there. The powers come last, so that nothing is kept across them for
-// a point that asks for none.
-pub fn arcs_contain(param: Quadrant, norm_point: Point) -> bool
-    ensures { λ r. ⌜ r ≡ roundContains param «norm_point» ⌝ }
-{
-    let top = param.top;
-    let right = param.right;
-    let p = geometry::sub(norm_point, top.offset);
-    let from_right = geometry::sub(norm_point, right.offset);
-    let q = Point {
-        x: from_right.y,
-        y: from_right.x,
-    };
-    match arc_answer(top, p) {
-        ArcAnswer::Outside => false,
-        ArcAnswer::Asked => match arc_answer(right, q) {
-            ArcAnswer::Outside => false,
-            ArcAnswer::Asked => {
-                superellipse_contains(p.x, p.y, top.se_a, top.se_n)
-                    && superellipse_contains(q.x, q.y, right.se_a, right.se_n)
-            }
-            ArcAnswer::Inside => superellipse_contains(p.x, p.y, top.se_a, top.se_n),
-        },
-        ArcAnswer::Inside => match arc_answer(right, q) {
-            ArcAnswer::Outside => false,
-            ArcAnswer::Asked => superellipse_contains(q.x, q.y, right.se_a, right.se_n),
-            ArcAnswer::Inside => true,
-        },
-    }
 }
 
 // A degree that is a NaN is round.

@@ -49,9 +49,9 @@ unfolding containsOf shapeAt ne
 first-holds fs p e = rw (e)
 
 -- a corner c that is known not to be square
-pub round-asked : (q c : Quadrant) (n : Point) (s r : Bool) → c ≡ q → s ≡ squareCorner c → s ≡ false → r ≡ roundContains c n → r ≡ normContains q n
+pub round-asked : (q c : Quadrant) (n : Point) (s r : Bool) → c ≡ q → s ≡ squareCorner c → s ≡ false → r ≡ roundContains q n → r ≡ normContains q n
 unfolding normContains
-round-asked q c n s r eq es ef er = rw (← eq, ← es, ef) er
+round-asked q c n s r eq es ef er = rw (sym (es ∙ ap squareCorner eq), ef) er
 
 -- the number that is answered
 pub answered : (fs : List Float) (p : Point) (b r : Bool) (n : ℕ) → length fs ≡ 89 → n ≡ cond r 1 0 → r ≡ b → b ≡ containsOf (shapeAt fs) p → n ≡ holdsOf fs p

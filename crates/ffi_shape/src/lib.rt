@@ -7,7 +7,7 @@ ghost use lib.ListN.{length};
 ghost use Rattle.geometry.specs.Point.{one, subOf, divOf};
 ghost use Rattle.octant.specs.Binary32.{zero};
 ghost use Rattle.octant.specs.Octant.{point};
-ghost use Rattle.containment.specs.Contains.{normContains, cornerContainsOf};
+ghost use Rattle.containment.specs.Contains.{normContains, roundContains, cornerContainsOf};
 ghost use Rattle.stream.specs.Stream.{put};
 ghost use Rattle.ffi_shape.specs.Layout.{pointFloats, octantFloats, quadrantFloats, shapeFloats, pointAt, octantAt, quadrantAt, shapeAt, boundsAt, radiiAt};
 ghost use Rattle.ffi_shape.specs.Making.{left, makeOf, cornersHold, holdsOf};
@@ -223,6 +223,21 @@ fn corners_hold(shape: &[f32], p: Point) -> bool
     true
 }
 
+// Whether the first corner, a round one, holds a point in its own space. The right octant is read only where the top one
+// holds the point.
+fn octants_hold(shape: &[f32], n: Point) -> bool
+    requires { ⌜ length (now shape) ≡ 89 ⌝ }
+    ensures { λ r. ⌜ r ≡ roundContains (quadrantAt (now (shape .entry)) 0) n ⌝ }
+{
+    let top = octant_at(shape, 4);
+    if containment::octant_contains(top, geometry::sub(n, top.offset)) {
+        let right = octant_at(shape, 13);
+        let q = geometry::sub(n, right.offset);
+        return containment::octant_contains(right, Point { x: q.y, y: q.x });
+    }
+    false
+}
+
 // Whether the one corner that describes all four holds the point. Round corners, nearly all, are asked in place.
 fn same_holds(shape: &[f32], p: Point) -> bool
     requires { ⌜ length (now shape) ≡ 89 ⌝ }
@@ -233,7 +248,7 @@ fn same_holds(shape: &[f32], p: Point) -> bool
     if containment::is_square(corner) {
         return norm_holds(shape, 0, n.x, n.y);
     }
-    containment::arcs_contain(corner, n)
+    octants_hold(shape, n)
 }
 
 fn number(b: bool) -> u32

@@ -24,12 +24,12 @@ returns : tie.Need-returns
 unfolding cornerContainsOf quadrantAt
 returns c = rw (← c .before .before .before .before .norm-point .ensures, ← c .before .before .before .abs .ensures) (c .norm-holds .ensures)
 
-arcs-contain-requires : tie.Need-arcs-contain-requires
-arcs-contain-requires c κs = search needs
+octants-hold-requires : tie.Need-octants-hold-requires
+octants-hold-requires c κs = search needs
 
 returns-2 : tie.Need-returns-2
 unfolding cornerContainsOf quadrantAt
-returns-2 c = rw (← c .before .before .before .before .norm-point .ensures, ← c .before .before .before .abs .ensures) (round-asked _ _ _ _ _ (c .before .before .before .before .before .quadrant-at .ensures) (c .before .before .is-square .ensures) (c .before .if1 .left) (c .arcs-contain .ensures))
+returns-2 c = rw (← c .before .before .before .before .norm-point .ensures, ← c .before .before .before .abs .ensures) (round-asked _ _ _ _ _ (c .before .before .before .before .before .quadrant-at .ensures) (c .before .before .is-square .ensures) (c .before .if1 .left) (c .octants-hold .ensures))
 
 pub same-holds-spec : {M : Type 1} → statement M
 same-holds-spec =
@@ -41,5 +41,5 @@ same-holds-spec =
     is-square-requires
     norm-holds-requires
     returns
-    arcs-contain-requires
+    octants-hold-requires
     returns-2)
