@@ -24,13 +24,13 @@ pub struct SixteenFloats {
 const LN2: f64 = 0.6931471805599453;
 
 // What four logarithms are worked out from: s is (f - 1) / (f + 1).
-pub struct FourParts {
+struct FourParts {
     pub s: Four,
     pub e: Four,
 }
 
 // What four exponentials are worked out from.
-pub struct FourReduced {
+struct FourReduced {
     pub r: Four,
     pub power: Four,
 }

@@ -180,7 +180,6 @@ module _ (t : ℕ) where
       let v = c .before .before .before .before .before in
       let w = v .before in
       let a = w .before .before .before .before .before .before .before .args in
-      let s = w .before .before .before .before .before .before .before .pre in
       let d = a .depth - 1 in
       let u = w .weight-of-halves in
       let e = v .depth-of-halves .result in
@@ -200,8 +199,6 @@ module _ (t : ℕ) where
       let a = w .before .before .before .before .before .before .before .args in
       let s = w .before .before .before .before .before .before .before .pre in
       let b = both w in
-      let d = a .depth - 1 in
-      let u = w .weight-of-halves in
       let one = singles (c .before .before .before) in
       (omega (arith, s .1 .3, pow-pos (a .depth)), omega (arith, s .1 .4 .0, b .many, one .0 .many), omega (arith, s .1 .4 .1, b .word, one .0 .word))
 
