@@ -1,6 +1,6 @@
 -- What the squared lengths tell of `flatOf`. Assumes nothing.
 use mathlib.Core.Path.{_≡_, refl, sym, subst, _∙_}
-use mathlib.Core.Bool.{Bool, true, false, cond, _&&_}
+use mathlib.Core.Bool.{Bool, true, false, cond}
 use lib.Dec.{T}
 use lib.Ieee.{binary32, mul, lt, le, fits}
 use lib.Ieee.Fits.{add-fits}
@@ -10,7 +10,8 @@ use Rattle.geometry.specs.Point.{subOf, lengthSquaredOf, lengthOf}
 use Rattle.conic.specs.declared.Conic.{Conic}
 use Rattle.conic.specs.declared.Flatness.{Flatness}
 use Rattle.conic.specs.declared.Flatness.the-variants.{Flat, Curved, Unsure}
-use Rattle.conic.specs.Conic.{zero, tiny, less, more, conicMid, quadMid, distanceOf, chordOf, nearOneOf, nearOf, flatOf, surelyNear, surelyFar, flatnessOf}
+use Rattle.conic.specs.Conic.{tiny, less, more, conicMid, quadMid, distanceOf, chordOf, nearOneOf, nearOf, flatOf, surelyNear, surelyFar, flatnessOf}
+use Rattle.conic.proofs.Squares.{squared-unsigned}
 use Rattle.conic.proofs.Near.{far, near}
 
 pub flat-one : (c : Conic) → nearOneOf (c .weight) ≡ true → flatOf c ≡ true
@@ -38,10 +39,9 @@ module _ (c : Conic) (w : nearOneOf (c .weight) ≡ false) where
   pub near-flat : surelyNear c ≡ true → flatOf c ≡ true
   unfolding surelyNear
   near-flat e =
-      let both-true = both (lt tiny (chordOf c) && le (distanceOf c) (mul binary32 less (chordOf c))) (le zero (distanceOf c)) e in
-      let first = both (lt tiny (chordOf c)) (le (distanceOf c) (mul binary32 less (chordOf c))) (both-true .0) in
-      flat-else c w
-      ∙ near (distanceOf c) (chordOf c) (squared-fits (subOf (conicMid c) (quadMid c))) (squared-fits (subOf (c .to) (c .from))) (holds _ (first .0)) (holds _ (both-true .1)) (holds _ (first .1))
+      let h = both (lt tiny (chordOf c)) (le (distanceOf c) (mul binary32 less (chordOf c))) e in
+      let d = subOf (conicMid c) (quadMid c) in
+      flat-else c w ∙ near (distanceOf c) (chordOf c) (squared-fits d) (squared-fits (subOf (c .to) (c .from))) (holds _ (h .0)) (squared-unsigned d) (holds _ (h .1))
 
   pub far-curved : surelyFar c ≡ true → flatOf c ≡ false
   unfolding surelyFar

@@ -6,4 +6,5 @@ pub mod Whole
 mod Weight
 pub mod Flat
 pub mod Margins
+mod Squares
 pub mod Near

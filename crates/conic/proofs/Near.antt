@@ -6,11 +6,11 @@ use native.Mathlib.Nat.{le-trans, le-of-eq, le-of-lt, lt-of-not-le, lt-of-lt-of-
 use native.Mathlib.Omega.{arith}
 use mathlib.Core.Bool.{Bool, true, false, _||_, cond}
 use lib.IntN.{ℤ, pos}
-use lib.Dec.{T, eqb, eqb→eq, ltb→lt, lt→ltb, not-T, lit<, lit≤}
+use lib.Dec.{T, ltb→lt, lt→ltb, not-T, lit<, lit≤}
 use lib.Pow.{pow-pos}
 use lib.Ieee.{Float, nan, inf, fin, binary32, up, down, ofBits, mul, lt, le, eq, fits}
 use lib.Ieee.Bits.{is-true, is-false}
-use lib.Ieee.Fits.{up-pos, down-pos, and-l}
+use lib.Ieee.Fits.{up-pos, down-pos}
 use lib.Ieee.Exact.{HasValue}
 use lib.Ieee.Order.{le-of-values}
 use lib.Ieee.Positive.{num, den, positive, positive-finite, den-pos, own-value, first-pos, value→cross, value-pos, positive-of-value, values-of-le}
@@ -21,6 +21,7 @@ use Rattle.rounding.proofs.Values.{split-le, fits-under, units-under}
 use Rattle.rounding.proofs.Meets.{meets}
 use Rattle.rounding.proofs.Relative.{Relative, sqrt-relative, scaled-relative}
 use Rattle.conic.specs.Conic.{thousandth, tiny, less, more, nearOf}
+use Rattle.conic.proofs.Squares.{Unsigned}
 use Rattle.conic.proofs.Margins.{no-room, below-product, above-product, below-scaled, above-scaled, small-product, small-root}
 
 -- the errors' factor is next / hidden, and 1.0 is `unit` times the smallest value
@@ -114,17 +115,14 @@ data NotBelow : Float → Type 0 where
   nothing : (s : Bool) (e : ℤ) → NotBelow (fin s 0 e)
   some : {x : Float} → T (positive x) → NotBelow x
 
-not-below : (x : Float) → T (le nought x) → NotBelow x
-unfolding le ofBits
-not-below nan t = absurd t
-not-below (inf true) t = absurd t
-not-below (inf false) t = infinite
-not-below (fin s zero e) t = nothing s e
-not-below (fin true (suc m) e) t = absurd (differ (suc m * up e) (down e) (mul-pos (suc-le-suc zero-le) (up-pos e)) (eqb→eq (0 * down e) (suc m * up e * 1) (and-l (eqb (0 * down e) (suc m * up e * 1)) (eqb (0 * down e) 0) t)))
-  where
-    differ : (a d : ℕ) → 0 < a → 0 * d ≡ a * 1 → ⊥
-    differ a d h e = let z = zero-mul d in omega arith
-not-below (fin false (suc m) e) t = some (lt→ltb 0 (suc m) (suc-le-suc zero-le))
+not-below : (x y : Float) → Unsigned x → T (le x y) → NotBelow x
+unfolding le
+not-below nan y p t = absurd t
+not-below (inf true) y p t = absurd p
+not-below (inf false) y p t = infinite
+not-below (fin true m e) y p t = absurd p
+not-below (fin false zero e) y p t = nothing false e
+not-below (fin false (suc m) e) y p t = some (lt→ltb 0 (suc m) (suc-le-suc zero-le))
 
 -- ---- a rounded fraction that is above zero
 rounded-positive : (n d : ℕ) (x : Float) → 0 < n → Relative binary32 (fraction n d) x → T (positive x)
@@ -278,9 +276,9 @@ far d c own held t h = go (above-cases tiny c tiny-positive t)
     go (inl p) = opened c held p t d ∙ far-finite c held p t d own h
     go (inr e) = absurd (none-above d (subst (λ (z : Float). T (lt (mul binary32 more z) d)) e h))
 
-pub near : (d c : Float) → T (fits binary32 d) → T (fits binary32 c) → T (lt tiny c) → T (le nought d) → T (le d (mul binary32 less c)) → nearOf d c ≡ true
+pub near : (d c : Float) → T (fits binary32 d) → T (fits binary32 c) → T (lt tiny c) → Unsigned d → T (le d (mul binary32 less c)) → nearOf d c ≡ true
 near d c own held t n h = go (above-cases tiny c tiny-positive t)
   where
     go : T (positive c) ⊎ (c ≡ inf false) → nearOf d c ≡ true
-    go (inl p) = opened c held p t d ∙ near-finite c held p t (not-below d n) own h
-    go (inr e) = ap (nearOf d) e ∙ near-inf d ∙ near-infinite (not-below d n) own
+    go (inl p) = opened c held p t d ∙ near-finite c held p t (not-below d (mul binary32 less c) n h) own h
+    go (inr e) = ap (nearOf d) e ∙ near-inf d ∙ near-infinite (not-below d (mul binary32 less c) n h) own

@@ -90,7 +90,7 @@ more = ofBits binary32 0x3586_37cf
 
 -- by the squared lengths alone, of a weight that is not near 1: flat, and not flat; where neither holds, the roots decide
 unfoldable pub surelyNear : Conic → Bool
-surelyNear c = lt tiny (chordOf c) && le (distanceOf c) (mul binary32 less (chordOf c)) && le zero (distanceOf c)
+surelyNear c = lt tiny (chordOf c) && le (distanceOf c) (mul binary32 less (chordOf c))
 
 unfoldable pub surelyFar : Conic → Bool
 surelyFar c = lt tiny (chordOf c) && lt (mul binary32 more (chordOf c)) (distanceOf c)

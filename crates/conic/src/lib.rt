@@ -117,7 +117,7 @@ pub fn closeness(x0: f32, y0: f32, x1: f32, y1: f32, x2: f32, y2: f32, w: f32) -
     let chord = geometry::length_squared(geometry::sub(c.to, c.from));
     let distance = geometry::length_squared(geometry::sub(conic_mid(c), quad_mid(c)));
     BySquares {
-        flat: (1e-30 < chord) & (distance <= 9.99998e-7 * chord) & (0.0 <= distance),
+        flat: (1e-30 < chord) & (distance <= 9.99998e-7 * chord),
         curved: (1e-30 < chord) & (1.000002e-6 * chord < distance),
     }
 }
