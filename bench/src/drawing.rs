@@ -1,6 +1,6 @@
 //! ns per call of what makes shapes, asks them and builds paths: the library, the original on document
 //! 01's float functions and the original on the platform's, on the same inputs, taken in turns in one
-//! run, the least of many rounds each. Every function stands behind a call.
+//! run, many rounds each. Every function stands behind a call.
 
 use std::hint::black_box;
 use std::time::Instant;
@@ -21,25 +21,24 @@ const POINTS: usize = 16;
 const LENGTH: usize = 64;
 const PATHS: usize = 16;
 
-/// One round of each in turn, again and again: the least time of each over `calls`.
-fn least<const N: usize>(calls: usize, bodies: [&mut dyn FnMut(); N]) -> [f64; N] {
-    least_of(ROUNDS, calls, bodies)
+/// One round of each in turn, again and again: the time of each over `calls`.
+fn rounds<const N: usize>(calls: usize, bodies: [&mut dyn FnMut(); N]) -> Vec<[f64; N]> {
+    rounds_of(ROUNDS, calls, bodies)
 }
 
-fn least_of<const N: usize>(
+fn rounds_of<const N: usize>(
     rounds: usize,
     calls: usize,
     mut bodies: [&mut dyn FnMut(); N],
-) -> [f64; N] {
-    let mut times = [f64::INFINITY; N];
-    for _ in 0..rounds {
-        for (time, body) in times.iter_mut().zip(bodies.iter_mut()) {
+) -> Vec<[f64; N]> {
+    let mut round = || {
+        bodies.each_mut().map(|body| {
             let start = Instant::now();
             body();
-            *time = time.min(start.elapsed().as_nanos() as f64 / calls as f64);
-        }
-    }
-    times
+            start.elapsed().as_nanos() as f64 / calls as f64
+        })
+    };
+    (0..rounds).map(|_| round()).collect()
 }
 
 /// min, max, and the radii top left, top right, bottom left, bottom right.
@@ -115,7 +114,7 @@ fn new(kind: &str, make: fn(&mut Random) -> Sizes) {
         );
     }
     let mut floats = [0.0; 89];
-    let times = least(
+    let times = rounds(
         SHAPES,
         [
             &mut || {
@@ -136,7 +135,7 @@ fn new(kind: &str, make: fn(&mut Random) -> Sizes) {
             },
         ],
     );
-    row("new", kind, times, "0.8");
+    row("new", kind, &times, "0.8");
 }
 
 /// A point in the middle of the box, near one of its corners, or beyond it.
@@ -187,7 +186,7 @@ fn contains(kind: &str, make: fn(&mut Random) -> Sizes) {
             assert_eq!(ours, theirs as u32, "library and oracle differ");
         }
         let (mut a, mut b, mut c) = (0u64, 0u64, 0u64);
-        let times = least(
+        let times = rounds(
             points.len(),
             [
                 &mut || {
@@ -212,7 +211,7 @@ fn contains(kind: &str, make: fn(&mut Random) -> Sizes) {
         );
         black_box((a, b, c));
         let name = format!("{kind}, {place}");
-        row("contains", &name, times, "1.0");
+        row("contains", &name, &times, "1.0");
     }
 }
 
@@ -241,7 +240,7 @@ fn outline(kind: &str, inputs: &[Sizes]) {
             "library and oracle differ"
         );
     }
-    let times = least(
+    let times = rounds(
         inputs.len(),
         [
             &mut || {
@@ -278,10 +277,10 @@ fn outline(kind: &str, inputs: &[Sizes]) {
             },
         ],
     );
-    let [library, written, std, counted, count] = times;
-    row("outline", kind, [library, written, std], "0.6; 1.0 to std");
-    row("outline, need counted", kind, [counted, written, std], "");
-    row("outline_need", kind, [count, written, std], "");
+    let beside = |k: usize| -> Vec<[f64; 3]> { times.iter().map(|t| [t[k], t[1], t[2]]).collect() };
+    row("outline", kind, &beside(0), "0.6; 1.0 to std");
+    row("outline, need counted", kind, &beside(3), "");
+    row("outline_need", kind, &beside(4), "");
 }
 
 fn outlines() {
@@ -347,7 +346,7 @@ fn build<T>(
     let (verbs, points) = (1 + 64 * LENGTH, 1 + 128 * LENGTH);
     let mut path = Path::with_room(verbs, points);
     let mut builder = written_path::with_room(verbs, points);
-    let times = least(
+    let times = rounds(
         PATHS * LENGTH,
         [
             &mut || {
@@ -373,8 +372,11 @@ fn build<T>(
         "library and oracle differ"
     );
     // of the functions that were written out the builder calls none: the two builds of the Rust are one
-    let [library, rust] = times;
-    row(name, how, [library, rust, rust], "1.0");
+    let times: Vec<[f64; 3]> = times
+        .iter()
+        .map(|[ours, rust]| [*ours, *rust, *rust])
+        .collect();
+    row(name, how, &times, "1.0");
 }
 
 fn lines() {
@@ -428,7 +430,7 @@ fn all_touches(how: &str, file: &[u8]) {
     let mut count = [0];
     assert_eq!(library::touch_all(file, &mut results, &mut count), 0);
     let (mut ours, mut theirs, mut native) = (0, Vec::new(), Vec::new());
-    let times = least_of(
+    let times = rounds_of(
         FILE_ROUNDS,
         count[0] as usize,
         [
@@ -444,7 +446,7 @@ fn all_touches(how: &str, file: &[u8]) {
     let equal = ours == 0 && theirs.eq(results[..count[0] as usize].iter().copied());
     assert!(equal, "library and oracle differ");
     black_box(native);
-    row("all touches", how, times, "");
+    row("all touches", how, &times, "");
 }
 
 fn touches() {

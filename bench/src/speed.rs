@@ -1,5 +1,6 @@
 //! ns per call of the library's functions, of the oracle's written-out ones and of the platform's,
-//! measured in turns in one run, the least of many rounds each. A chain is a run of calls each of
+//! measured in turns in one run, the least of many rounds each. Ratios are told twice: of the least times, and as the median
+//! of the rounds' own, which differ where a shared machine is slower in some rounds. A chain is a run of calls each of
 //! which waits for the one before, as in a solver; otherwise the calls may overlap. For `narrow` and `sqrt` both of the Rust's are
 //! the machine's instruction.
 
@@ -38,41 +39,47 @@ fn overlapping<T: Copy>(inputs: &[T], call: impl Fn(T) -> u64) -> f64 {
     time.as_nanos() as f64 / inputs.len() as f64
 }
 
+/// Of the rounds' ratios of the first function to function `k` the median.
+fn ratio(rounds: &[[f64; 3]], k: usize) -> f64 {
+    let mut ratios: Vec<f64> = rounds.iter().map(|r| r[0] / r[k]).collect();
+    ratios.sort_by(f64::total_cmp);
+    ratios[ratios.len() / 2]
+}
+
 /// A row of the table: the library, the Rust on document 01's written-out functions and on the platform's.
-pub fn row(name: &str, how: &str, [library, written, std]: [f64; 3], goal: &str) {
+pub fn row(name: &str, how: &str, rounds: &[[f64; 3]], goal: &str) {
+    let [library, written, std] =
+        [0, 1, 2].map(|k| rounds.iter().map(|r| r[k]).fold(f64::INFINITY, f64::min));
     let digits = if library < 100.0 { 1 } else { 0 };
     print!("| {name} | {how} | {library:.digits$} | {written:.digits$} | {std:.digits$} ");
     println!(
-        "| {:.2} | {:.2} | {goal} |",
+        "| {:.2} | {:.2} | {:.2} | {:.2} | {goal} |",
         library / written,
-        library / std
+        library / std,
+        ratio(rounds, 1),
+        ratio(rounds, 2)
     );
 }
 
 pub fn head() {
     println!("ns per call; ratios are the library's time over the other's\n");
-    println!("| function | | library | Rust, written-out | Rust, std | to written-out | to std | goal, to written-out |");
-    println!("|---|---|---|---|---|---|---|---|");
+    println!("| function | | library | Rust, written-out | Rust, std | to written-out | to std | median | median | goal, to written-out |");
+    println!("|---|---|---|---|---|---|---|---|---|---|");
 }
 
-/// The least of the rounds of each function, taken in turns.
+/// The rounds of each function, taken in turns.
 macro_rules! compare {
     ($names:expr, $name:literal, $goal:literal, $inputs:expr, $tie:expr, $($call:expr),+ $(,)?) => {{
         if $names.is_empty() || $names.contains(&$name) {
             let inputs = $inputs;
-            let mut calls = [f64::INFINITY; 3];
-            let mut chain = [f64::INFINITY; 3];
-            for _ in 0..ROUNDS {
-                let mut k = 0;
-                $(
-                    calls[k] = calls[k].min(overlapping(&inputs, $call));
-                    chain[k] = chain[k].min(round(&inputs, $call, $tie));
-                    k += 1;
-                )+
-                let _ = k;
+            let mut calls = [[0.0; 3]; ROUNDS];
+            let mut chain = [[0.0; 3]; ROUNDS];
+            for (calls, chain) in calls.iter_mut().zip(&mut chain) {
+                *calls = [$(overlapping(&inputs, $call)),+];
+                *chain = [$(round(&inputs, $call, $tie)),+];
             }
-            row($name, "calls", calls, $goal);
-            row($name, "chain", chain, $goal);
+            row($name, "calls", &calls, $goal);
+            row($name, "chain", &chain, $goal);
         }
     }};
 }
