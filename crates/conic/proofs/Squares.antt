@@ -1,8 +1,9 @@
 -- A squared length has no minus sign. Assumes nothing.
-use Prim.Native.Nat.{ℕ, zero, suc, _+_, _*_, _^_}
-use mathlib.Core.Bool.{Bool, true, false, cond, not}
-use lib.Dec.{T, ltb}
-use lib.Ieee.{Format, prec, emax, low, Float, nan, inf, fin, binary32, odd, units, round, sum, add, mul}
+use Prim.Native.Nat.{ℕ}
+use mathlib.Core.Bool.{true, false, not}
+use lib.Dec.{T}
+use lib.Ieee.{Format, Float, nan, inf, fin, binary32, round, sum, add, mul}
+use Rattle.ieee.proofs.Signs.{Up, up-round}
 use Rattle.geometry.specs.declared.Point.{Point}
 use Rattle.geometry.specs.Point.{lengthSquaredOf}
 
@@ -12,22 +13,13 @@ Unsigned nan = Unit {0}
 Unsigned (inf s) = T (not s)
 Unsigned (fin s m e) = T (not s)
 
-odd-unsigned : (d q k l : ℕ) → Unsigned (odd d false q k l)
-unfolding odd
-odd-unsigned d zero k l = tt
-odd-unsigned d (suc q) k l = tt
-
-units-unsigned : (f : Format) (q k : ℕ) → Unsigned (units f false q k)
-unfolding units
-units-unsigned f q k = go (ltb (q * 2 ^ k) (2 ^ (low f + suc (emax f))))
-  where
-    go : (b : Bool) → Unsigned (cond b (odd (suc (prec f)) false q k (low f)) (inf false))
-    go true = odd-unsigned (suc (prec f)) q k (low f)
-    go false = tt
+unsigned : (x : Float) → Up x → Unsigned x
+unsigned nan p = absurd p
+unsigned (inf s) p = p
+unsigned (fin s m e) p = p
 
 round-unsigned : (f : Format) (n d : ℕ) → Unsigned (round f false n d)
-unfolding round
-round-unsigned f n d = units-unsigned f _ _
+round-unsigned f n d = unsigned (round f false n d) (up-round f n d)
 
 square-unsigned : (f : Format) (x : Float) → Unsigned (mul f x x)
 unfolding mul

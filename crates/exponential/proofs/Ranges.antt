@@ -11,6 +11,7 @@ use lib.Ieee.Fits.{and-i, down-pos}
 use lib.Ieee.Exact.{HasValue}
 use lib.Ieee.Back.{round-whole}
 use lib.Ieee.Order.{round-mono}
+use Rattle.ieee.proofs.Signs.{Up, up-round}
 use Rattle.exponential.specs.Constants.{half, hundred, lowest, ln2}
 use Rattle.exponential.specs.Exponential.{within}
 
@@ -42,29 +43,6 @@ abbrev Most : ℕ → Float → Type 0
 Most n nan = ⊥
 Most n (inf s) = ⊥
 Most n (fin s m e) = m * up e ≤ n * down e
-
--- x is not below 0
-abbrev Up : Float → Type 0
-Up nan = ⊥
-Up (inf s) = T (not s)
-Up (fin s m e) = T (not s)
-
-up-odd : (d q k l : ℕ) → Up (odd d false q k l)
-unfolding odd
-up-odd d zero k l = tt
-up-odd d (suc q) k l = tt
-
-up-units : (f : Format) (q k : ℕ) → Up (units f false q k)
-unfolding units
-up-units f q k = go (ltb (q * 2 ^ k) (2 ^ (low f + suc (emax f))))
-  where
-    go : (b : Bool) → Up (cond b (odd (suc (prec f)) false q k (low f)) (inf false))
-    go true = up-odd _ q k _
-    go false = tt
-
-up-round : (f : Format) (a c : ℕ) → Up (round f false a c)
-unfolding round
-up-round f a c = up-units f _ _
 
 cancel : (x y n p d e : ℕ) → 0 < d → x * d ≤ y * e → y * 1 ≡ n * d → x ≤ n * e
 cancel x y n p d e h l v = le-of-mul-le-mul-right (subst (λ (z : ℕ). x * d ≤ z) (ap (λ (z : ℕ). z * e) (sym (mul-one y) ∙ v) ∙ mul-right-comm n d e) l) h
