@@ -1,10 +1,13 @@
 -- Four numbers side by side, each treated alike. Definitions only.
 use mathlib.Core.Bool.{Bool, _&&_}
-use lib.Ieee.{Float, binary64, add, mul}
+use lib.Ieee.{Float, binary32, binary64, ofBits, add, mul}
 use Rattle.ieee.specs.Basic.{widenOf}
 use Rattle.ieee.specs.Narrow.{narrowOf, regular}
 use Rattle.lanes.specs.declared.Four.{Four}
 use Rattle.lanes.specs.declared.FourFloats.{FourFloats}
+
+abbrev pub one : Float
+one = ofBits binary32 0x3f80_0000
 
 -- one number four times
 abbrev pub alikeOf : Float → Four

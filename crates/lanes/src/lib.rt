@@ -1,9 +1,9 @@
 // Numbers four by four, so that a processor works at several at once: none waits for another. Horner's scheme goes two times
 // four, which is as many as the registers of a processor hold, or four times four where so many are asked for at once.
 ghost use mathlib.Core.Path.{_≡_};
-ghost use lib.Ieee.{binary64, mul};
+ghost use lib.Ieee.{Float, binary32, binary64, sub, mul, div};
 ghost use Rattle.series.specs.Horner.{hornerOf};
-ghost use Rattle.lanes.specs.Lanes.{alikeOf, each, pairwise, stepOf, widened, narrowed, allRegular};
+ghost use Rattle.lanes.specs.Lanes.{one, alikeOf, each, pairwise, eachFloat, pairwiseFloats, stepOf, widened, narrowed, allRegular};
 
 pub struct Four {
     pub first: f64,
@@ -80,6 +80,62 @@ pub fn multiply(x: Four, y: Four) -> Four
         second: x.second * y.second,
         third: x.third * y.third,
         fourth: x.fourth * y.fourth,
+    }
+}
+
+pub fn less_one(n: FourFloats) -> FourFloats
+    ensures { λ r. ⌜ r ≡ eachFloat (λ (x : Float). sub binary32 x one) n ⌝ }
+{
+    FourFloats {
+        first: n.first - 1.0,
+        second: n.second - 1.0,
+        third: n.third - 1.0,
+        fourth: n.fourth - 1.0,
+    }
+}
+
+pub fn reciprocals(n: FourFloats) -> FourFloats
+    ensures { λ r. ⌜ r ≡ eachFloat (λ (x : Float). div binary32 one x) n ⌝ }
+{
+    FourFloats {
+        first: 1.0 / n.first,
+        second: 1.0 / n.second,
+        third: 1.0 / n.third,
+        fourth: 1.0 / n.fourth,
+    }
+}
+
+// What each lacks to 1.
+pub fn complements(n: FourFloats) -> FourFloats
+    ensures { λ r. ⌜ r ≡ eachFloat (λ (x : Float). sub binary32 one x) n ⌝ }
+{
+    FourFloats {
+        first: 1.0 - n.first,
+        second: 1.0 - n.second,
+        third: 1.0 - n.third,
+        fourth: 1.0 - n.fourth,
+    }
+}
+
+pub fn multiply_floats(x: FourFloats, y: FourFloats) -> FourFloats
+    ensures { λ r. ⌜ r ≡ pairwiseFloats (mul binary32) x y ⌝ }
+{
+    FourFloats {
+        first: x.first * y.first,
+        second: x.second * y.second,
+        third: x.third * y.third,
+        fourth: x.fourth * y.fourth,
+    }
+}
+
+pub fn divide_floats(x: FourFloats, y: FourFloats) -> FourFloats
+    ensures { λ r. ⌜ r ≡ pairwiseFloats (div binary32) x y ⌝ }
+{
+    FourFloats {
+        first: x.first / y.first,
+        second: x.second / y.second,
+        third: x.third / y.third,
+        fourth: x.fourth / y.fourth,
     }
 }
 

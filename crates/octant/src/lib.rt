@@ -4,7 +4,7 @@ ghost use mathlib.Core.Path.{_≡_};
 ghost use Prim.Native.Nat.{_+_, _<_};
 ghost use Rattle.octant.specs.Degree.{cornerAt, leftRowOf, tableStepsOf, nAndXjOf};
 ghost use Rattle.octant.specs.Octant.{circleCenterThroughOf, angleBetweenOf, computeOctantOf, movedOf};
-ghost use Rattle.octant.specs.Stages.{begunOf, heightOf, slopeOf, finishedOf};
+ghost use Rattle.octant.specs.Stages.{fittedOf, firstPowerOf, heightOf, slopeOf, finishedOf};
 use geometry::Point;
 
 // The radius up to which a corner is square.
@@ -171,43 +171,49 @@ pub fn angle_between(from: Point, to: Point) -> f32
     trigonometry::atan2(to.y, to.x) - trigonometry::atan2(from.y, from.x)
 }
 
-// A solve as far as its first power: the gap at the corner, the degree, and the x where the arcs meet.
-struct Begun {
-    g: f32,
-    n: f32,
-    xj: f32,
-    power: f32,
+// What an octant is solved from: the gap at the corner, the degree, and the x where the arcs meet, also as a part of the half-extent.
+pub struct Fitted {
+    pub g: f32,
+    pub n: f32,
+    pub xj: f32,
+    pub xj_over_a: f32,
 }
 
-fn begin(a: f32, radius: f32) -> Begun
-    ensures { λ r. ⌜ r ≡ begunOf a radius ⌝ }
+pub fn fit(a: f32, radius: f32) -> Fitted
+    ensures { λ r. ⌜ r ≡ fittedOf a radius ⌝ }
 {
     let ratio = a * 2.0 / radius;
     let g = GAP_FACTOR * radius;
     let fit = n_and_xj(ratio);
-    Begun {
+    Fitted {
         g,
         n: fit.n,
         xj: fit.xj_over_a * a,
-        power: exponential::pow(fit.xj_over_a, fit.n),
+        xj_over_a: fit.xj_over_a,
     }
 }
 
-// The y where the arcs meet.
-fn height(s: Begun, a: f32) -> f32
-    ensures { λ r. ⌜ r ≡ heightOf s a ⌝ }
+fn first_power(s: Fitted) -> f32
+    ensures { λ r. ⌜ r ≡ firstPowerOf s ⌝ }
 {
-    exponential::pow(1.0 - s.power, 1.0 / s.n) * a
+    exponential::pow(s.xj_over_a, s.n)
+}
+
+// The y where the arcs meet.
+fn height(s: Fitted, power: f32, a: f32) -> f32
+    ensures { λ r. ⌜ r ≡ heightOf s power a ⌝ }
+{
+    exponential::pow(1.0 - power, 1.0 / s.n) * a
 }
 
 // The slope of the tangent there.
-fn slope(s: Begun, yj: f32) -> f32
+fn slope(s: Fitted, yj: f32) -> f32
     ensures { λ r. ⌜ r ≡ slopeOf s yj ⌝ }
 {
     exponential::pow(s.xj / yj, s.n - 1.0)
 }
 
-fn finished(center: Point, a: f32, s: Begun, yj: f32, tan_phij: f32) -> Octant
+pub fn finished(center: Point, a: f32, s: Fitted, yj: f32, tan_phij: f32) -> Octant
     ensures { λ r. ⌜ r ≡ finishedOf center a s yj «tan_phij» ⌝ }
 {
     let xj = s.xj;
@@ -242,8 +248,8 @@ pub fn compute_octant(center: Point, a: f32, radius: f32) -> Octant
             circle_max_angle: 0.0,
         };
     }
-    let s = begin(a, radius);
-    let yj = height(s, a);
+    let s = fit(a, radius);
+    let yj = height(s, first_power(s), a);
     finished(center, a, s, yj, slope(s, yj))
 }
 
@@ -264,10 +270,12 @@ pub fn compute_octants(c1: Point, a1: f32, c2: Point, a2: f32, radius: f32) -> O
             second: compute_octant(c2, a2, radius),
         };
     }
-    let s1 = begin(a1, radius);
-    let s2 = begin(a2, radius);
-    let y1 = height(s1, a1);
-    let y2 = height(s2, a2);
+    let s1 = fit(a1, radius);
+    let s2 = fit(a2, radius);
+    let p1 = first_power(s1);
+    let p2 = first_power(s2);
+    let y1 = height(s1, p1, a1);
+    let y2 = height(s2, p2, a2);
     let t1 = slope(s1, y1);
     let t2 = slope(s2, y2);
     Octants {

@@ -71,40 +71,6 @@ fn degrees(o: FourOctants) -> FourFloats
     }
 }
 
-fn less_one(n: FourFloats) -> FourFloats
-    ensures { λ r. ⌜ r ≡ eachFloat (λ (x : Float). x ⊖ one) n ⌝ }
-{
-    FourFloats {
-        first: n.first - 1.0,
-        second: n.second - 1.0,
-        third: n.third - 1.0,
-        fourth: n.fourth - 1.0,
-    }
-}
-
-fn reciprocals(n: FourFloats) -> FourFloats
-    ensures { λ r. ⌜ r ≡ eachFloat (λ (x : Float). one ⊘ x) n ⌝ }
-{
-    FourFloats {
-        first: 1.0 / n.first,
-        second: 1.0 / n.second,
-        third: 1.0 / n.third,
-        fourth: 1.0 / n.fourth,
-    }
-}
-
-// What each lacks to 1.
-fn complements(n: FourFloats) -> FourFloats
-    ensures { λ r. ⌜ r ≡ eachFloat (λ (x : Float). one ⊖ x) n ⌝ }
-{
-    FourFloats {
-        first: 1.0 - n.first,
-        second: 1.0 - n.second,
-        third: 1.0 - n.third,
-        fourth: 1.0 - n.fourth,
-    }
-}
-
 // The slope of the radius to each, which a power makes the slope of the tangent, but for the sign.
 fn ratios(p: FourPoints) -> FourFloats
     ensures { λ r. ⌜ r ≡ ratiosEach p ⌝ }
@@ -218,8 +184,8 @@ pub fn conics(p: FourOctants, q: FourOctants) -> EightConics
     let g = four_factors(q);
     let y = four_heights(f, p);
     let z = four_heights(g, q);
-    let n_less = less_one(n);
-    let m_less = less_one(m);
+    let n_less = lanes::less_one(n);
+    let m_less = lanes::less_one(m);
     let s = ratios(starts(p));
     let t = ratios(starts(q));
     // Neither eight waits for the other, so they go together.
@@ -229,10 +195,10 @@ pub fn conics(p: FourOctants, q: FourOctants) -> EightConics
     let roots = powers::pow(
         &odd[..12],
         &inverse[..14],
-        complements(powers.low),
-        reciprocals(n),
-        complements(powers.high),
-        reciprocals(m),
+        lanes::complements(powers.low),
+        lanes::reciprocals(n),
+        lanes::complements(powers.high),
+        lanes::reciprocals(m),
     );
     let h = four_met(p, roots.low, y);
     let i = four_met(q, roots.high, z);

@@ -6,6 +6,7 @@ use Rattle.geometry.specs.declared.Point.{Point}
 use Rattle.geometry.specs.Point.{one, subOf, divOf, shrinkOf, absPoint}
 use Rattle.octant.specs.Binary32.{_⊕_, _⊖_, _⊗_, _⊘_, zero, two}
 use Rattle.octant.specs.Octant.{point, computeOctantOf}
+use Rattle.quadrant.specs.declared.Frame.{Frame}
 use Rattle.quadrant.specs.declared.Quadrant.{Quadrant}
 
 -- how far the corner is stretched from a circular one: nothing where the lesser radius is zero
@@ -32,6 +33,41 @@ computeQuadrantOf center corner inRadii sign =
       «signed_scale» = signedScale;
       top = computeOctantOf (point zero (neg c)) (normHalfSize .x) normRadius;
       right = computeOctantOf (point c zero) (normHalfSize .y) normRadius;
+    }
+
+-- ---- compute_quadrant in two steps, so that the octants of several corners can be solved in step. `framed` says that they make it up.
+
+-- the corner before its octants are solved
+unfoldable pub frameOf : Point → Point → Point → Point → Frame
+frameOf center corner inRadii sign =
+    let cornerVector = subOf corner center in
+    let radii = point (minOf (absOf (inRadii .x)) (absOf (cornerVector .x))) (minOf (absOf (inRadii .y)) (absOf (cornerVector .y))) in
+    let normRadius = minOf (radii .x) (radii .y) in
+    let forwardScale = forwardScaleOf radii normRadius in
+    let normHalfSize = divOf (absPoint cornerVector) forwardScale in
+    let raw = divOf cornerVector normHalfSize in
+    record {
+      offset = center;
+      «signed_scale» = point (orSignOf (raw .x) (sign .x)) (orSignOf (raw .y) (sign .y));
+      «half_size» = normHalfSize;
+      radius = normRadius;
+    }
+
+-- where the superellipses of its octants have their centers
+unfoldable pub topOffsetOf : Frame → Point
+topOffsetOf f = point zero (neg (f .«half_size» .x ⊖ f .«half_size» .y))
+
+unfoldable pub rightOffsetOf : Frame → Point
+rightOffsetOf f = point (f .«half_size» .x ⊖ f .«half_size» .y) zero
+
+-- the quadrant
+unfoldable pub solvedOf : Frame → Quadrant
+solvedOf f =
+    record {
+      offset = f .offset;
+      «signed_scale» = f .«signed_scale»;
+      top = computeOctantOf (topOffsetOf f) (f .«half_size» .x) (f .radius);
+      right = computeOctantOf (rightOffsetOf f) (f .«half_size» .y) (f .radius);
     }
 
 -- both are zero, of either sign

@@ -3,7 +3,7 @@
 ghost use mathlib.Core.Path.{_≡_};
 ghost use mathlib.Core.Bool.{true};
 ghost use Rattle.octant.specs.Octant.{computeOctantOf};
-ghost use Rattle.quadrant.specs.Quadrant.{forwardScaleOf, orSignOf, computeQuadrantOf, bothZero, splitOf};
+ghost use Rattle.quadrant.specs.Quadrant.{forwardScaleOf, orSignOf, frameOf, topOffsetOf, rightOffsetOf, solvedOf, computeQuadrantOf, bothZero, splitOf};
 use geometry::Point;
 use octant::Octant;
 use octant::Octants;
@@ -63,8 +63,16 @@ fn two_octants(from: Point, to: Point, half_size: Point, radius: f32) -> Octants
     octant::compute_octants(from, half_size.x, to, half_size.y, radius)
 }
 
-pub fn compute_quadrant(center: Point, corner: Point, in_radii: Point, sign: Point) -> Quadrant
-    ensures { λ r. ⌜ r ≡ computeQuadrantOf center corner «in_radii» sign ⌝ }
+// A corner before its octants are solved: each half-extent as if the corner were round, and its radius.
+pub struct Frame {
+    pub offset: Point,
+    pub signed_scale: Point,
+    pub half_size: Point,
+    pub radius: f32,
+}
+
+pub fn frame_of(center: Point, corner: Point, in_radii: Point, sign: Point) -> Frame
+    ensures { λ r. ⌜ r ≡ frameOf center corner «in_radii» sign ⌝ }
 {
     let corner_vector = geometry::sub(corner, center);
     let radii = Point {
@@ -79,19 +87,50 @@ pub fn compute_quadrant(center: Point, corner: Point, in_radii: Point, sign: Poi
         x: or_sign(raw.x, sign.x),
         y: or_sign(raw.y, sign.y),
     };
-    // The two octants' superellipses are offset by the same distance in opposite directions.
-    let c = norm_half_size.x - norm_half_size.y;
-    let top_offset = Point { x: 0.0, y: -c };
-    let right_offset = Point { x: c, y: 0.0 };
-    let octants = two_octants(top_offset, right_offset, norm_half_size, norm_radius);
+    Frame {
+        offset: center,
+        signed_scale,
+        half_size: norm_half_size,
+        radius: norm_radius,
+    }
+}
+
+// The two octants' superellipses are offset by the same distance in opposite directions.
+pub fn top_offset(f: Frame) -> Point
+    ensures { λ r. ⌜ r ≡ topOffsetOf f ⌝ }
+{
+    let c = f.half_size.x - f.half_size.y;
+    Point { x: 0.0, y: -c }
+}
+
+pub fn right_offset(f: Frame) -> Point
+    ensures { λ r. ⌜ r ≡ rightOffsetOf f ⌝ }
+{
+    let c = f.half_size.x - f.half_size.y;
+    Point { x: c, y: 0.0 }
+}
+
+// The quadrant of a corner, solved.
+pub fn solved(f: Frame) -> Quadrant
+    ensures { λ r. ⌜ r ≡ solvedOf f ⌝ }
+{
+    let offset = f.offset;
+    let signed_scale = f.signed_scale;
+    let octants = two_octants(top_offset(f), right_offset(f), f.half_size, f.radius);
     let top = octants.first;
     let right = octants.second;
     Quadrant {
-        offset: center,
+        offset,
         signed_scale,
         top,
         right,
     }
+}
+
+pub fn compute_quadrant(center: Point, corner: Point, in_radii: Point, sign: Point) -> Quadrant
+    ensures { λ r. ⌜ r ≡ computeQuadrantOf center corner «in_radii» sign ⌝ }
+{
+    solved(frame_of(center, corner, in_radii, sign))
 }
 
 fn both_zero(a: f32, b: f32) -> bool

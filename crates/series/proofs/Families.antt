@@ -1,5 +1,5 @@
 -- The first terms of a family, of any number: which stands at a place, and the first of them. Assumes nothing.
-use mathlib.Core.Path.{_≡_, refl, ap}
+use mathlib.Core.Path.{_≡_, refl, sym, ap, _∙_, subst}
 use mathlib.Core.List.{List, _∷_}
 use Prim.Native.Nat.{ℕ, zero, suc, _<_, _≤_}
 use native.Mathlib.Omega.{arith}
@@ -23,3 +23,7 @@ unfolding terms
 terms-take c n zero h = refl
 terms-take c zero (suc m) h = absurd (omega arith)
 terms-take c (suc n) (suc m) h = ap (λ (cs : List Float). c 0 ∷ cs) (terms-take (λ k. c (suc k)) n m (omega arith))
+
+-- a family of n has its first m
+pub enough : (cs : List Float) (c : ℕ → Float) (n m : ℕ) → cs ≡ terms c n → m ≤ n → m ≤ length cs
+enough cs c n m e h = subst (λ (k : ℕ). m ≤ k) (sym (ap length e ∙ length-terms c n)) h

@@ -2,11 +2,13 @@
 // With the Rust's names and in its order.
 ghost use mathlib.Core.Path.{_≡_};
 ghost use Rattle.octant.specs.Octant.{point};
-ghost use Rattle.quadrant.specs.Quadrant.{computeQuadrantOf};
+ghost use Rattle.quadrant.specs.Quadrant.{frameOf};
 ghost use Rattle.shape.specs.Shape.{samePoint, allSame, oneQuadrant, equalShape, unequalShape, shapeOf};
 ghost use Rattle.shape.specs.Refusal.{anyOf, beyondLimit, pointBeyond, radiiBeyond, boundsBeyond, pointBelow, radiiBelow, inverted, outcomeOf, newOf};
 use geometry::Point;
+use quadrant::Frame;
 use quadrant::Quadrant;
+use quadrants::FourFrames;
 
 // The largest magnitude that a component of the bounds or the radii may have.
 const LIMIT: f32 = 16384.0;
@@ -85,11 +87,11 @@ fn equal_shape(bounds: Bounds, radii: CornerRadii) -> RoundSuperellipse
     }
 }
 
-// The quadrant with the center (x, y) and the sign (u, v).
-fn quadrant_at(x: f32, y: f32, corner: Point, radii: Point, u: f32, v: f32) -> Quadrant
-    ensures { λ r. ⌜ r ≡ computeQuadrantOf (point x y) corner radii (point u v) ⌝ }
+// The corner with the center (x, y) and the sign (u, v).
+fn frame_at(x: f32, y: f32, corner: Point, radii: Point, u: f32, v: f32) -> Frame
+    ensures { λ r. ⌜ r ≡ frameOf (point x y) corner radii (point u v) ⌝ }
 {
-    quadrant::compute_quadrant(Point { x, y }, corner, radii, Point { x: u, y: v })
+    quadrant::frame_of(Point { x, y }, corner, radii, Point { x: u, y: v })
 }
 
 fn unequal_shape(bounds: Bounds, radii: CornerRadii) -> RoundSuperellipse
@@ -103,25 +105,39 @@ fn unequal_shape(bounds: Bounds, radii: CornerRadii) -> RoundSuperellipse
     let right_split = quadrant::split(min.y, max.y, radii.top_right.y, radii.bottom_right.y);
     let bottom_split = quadrant::split(min.x, max.x, radii.bottom_left.x, radii.bottom_right.x);
     let left_split = quadrant::split(min.y, max.y, radii.top_left.y, radii.bottom_left.y);
+    let first = frame_at(
+        top_split,
+        right_split,
+        right_top,
+        radii.top_right,
+        1.0,
+        -1.0,
+    );
+    let second = frame_at(bottom_split, right_split, max, radii.bottom_right, 1.0, 1.0);
+    let third = frame_at(
+        bottom_split,
+        left_split,
+        left_bottom,
+        radii.bottom_left,
+        -1.0,
+        1.0,
+    );
+    let fourth = frame_at(top_split, left_split, min, radii.top_left, -1.0, -1.0);
+    let q = quadrants::solved(FourFrames {
+        first,
+        second,
+        third,
+        fourth,
+    });
+    let top_right = q.first;
+    let bottom_right = q.second;
+    let bottom_left = q.third;
+    let top_left = q.fourth;
     RoundSuperellipse {
-        top_right: quadrant_at(
-            top_split,
-            right_split,
-            right_top,
-            radii.top_right,
-            1.0,
-            -1.0,
-        ),
-        bottom_right: quadrant_at(bottom_split, right_split, max, radii.bottom_right, 1.0, 1.0),
-        bottom_left: quadrant_at(
-            bottom_split,
-            left_split,
-            left_bottom,
-            radii.bottom_left,
-            -1.0,
-            1.0,
-        ),
-        top_left: quadrant_at(top_split, left_split, min, radii.top_left, -1.0, -1.0),
+        top_right,
+        bottom_right,
+        bottom_left,
+        top_left,
         all_corners_same: false,
     }
 }

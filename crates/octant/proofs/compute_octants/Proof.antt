@@ -12,11 +12,17 @@ compute-octant-requires-2 c κs = search needs
 returns : tie.Need-returns
 returns c = search needs
 
-begin-requires : tie.Need-begin-requires
-begin-requires c κs = search needs
+fit-requires : tie.Need-fit-requires
+fit-requires c κs = search needs
 
-begin-requires-2 : tie.Need-begin-requires-2
-begin-requires-2 c κs = search needs
+fit-requires-2 : tie.Need-fit-requires-2
+fit-requires-2 c κs = search needs
+
+first-power-requires : tie.Need-first-power-requires
+first-power-requires c κs = search needs
+
+first-power-requires-2 : tie.Need-first-power-requires-2
+first-power-requires-2 c κs = search needs
 
 height-requires : tie.Need-height-requires
 height-requires c κs = search needs
@@ -38,9 +44,9 @@ finished-requires-2 c κs = search needs
 
 returns-2 : tie.Need-returns-2
 returns-2 c =
-    let a = c .before .before .before .before .before .before .before .before .before .args in (
-      solved (a .c1) (a .a1) (a .radius) _ _ _ _ (c .before .before .before .before .before .before .before .before .if1 .left) (c .before .before .before .before .before .before .before .begin .ensures) (c .before .before .before .before .before .height .ensures) (c .before .before .before .slope .ensures) (c .before .finished .ensures),
-      solved (a .c2) (a .a2) (a .radius) _ _ _ _ (c .before .before .before .before .before .before .before .before .if1 .left) (c .before .before .before .before .before .before .begin2 .ensures) (c .before .before .before .before .height2 .ensures) (c .before .before .slope2 .ensures) (c .finished2 .ensures),
+    let a = c .before .before .before .before .before .before .before .before .before .before .before .args in (
+      solved (a .c1) (a .a1) (a .radius) _ _ _ _ _ (c .before .before .before .before .before .before .before .before .before .before .if1 .left) (c .before .before .before .before .before .before .before .before .before .fit .ensures) (c .before .before .before .before .before .before .before .first-power .ensures) (c .before .before .before .before .before .height .ensures) (c .before .before .before .slope .ensures) (c .before .finished .ensures),
+      solved (a .c2) (a .a2) (a .radius) _ _ _ _ _ (c .before .before .before .before .before .before .before .before .before .before .if1 .left) (c .before .before .before .before .before .before .before .before .fit2 .ensures) (c .before .before .before .before .before .before .first-power2 .ensures) (c .before .before .before .before .height2 .ensures) (c .before .before .slope2 .ensures) (c .finished2 .ensures),
     )
 
 pub compute-octants-spec : {M : Type 1} → statement M
@@ -50,8 +56,10 @@ compute-octants-spec =
     compute-octant-requires
     compute-octant-requires-2
     returns
-    begin-requires
-    begin-requires-2
+    fit-requires
+    fit-requires-2
+    first-power-requires
+    first-power-requires-2
     height-requires
     height-requires-2
     slope-requires

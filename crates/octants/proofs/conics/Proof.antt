@@ -1,15 +1,12 @@
-use mathlib.Core.Path.{_≡_, sym, ap, _∙_, subst}
-use mathlib.Core.List.{List}
-use Prim.Native.Nat.{ℕ, _≤_}
+use mathlib.Core.Path.{_≡_}
 use lib.Dec.{lit≤}
-use lib.ListN.{length}
 use lib.Ieee.{Float}
 use borrow.Author.Needs.{needs}
 use Rattle.octants.proofs.conics.Statement.{statement}
 use Rattle.octants.proofs.conics.Tie as tie
 use Rattle.geometry.specs.Point.{one}
 use Rattle.series.specs.Coefficients.{terms}
-use Rattle.series.proofs.Families.{length-terms}
+use Rattle.series.proofs.Families.{enough}
 use Rattle.powers.proofs.Laws.{first-odd, first-factorial}
 use Rattle.lanes.specs.Lanes.{eachFloat, pairwiseFloats}
 use Rattle.lanes.specs.declared.FourFloats.{FourFloats}
@@ -44,10 +41,6 @@ in-step : (o : FourOctants) (n : FourFloats) (f : FourFactors) (y powers less : 
 unfolding superellipseConicsOf
 in-step o n f y powers less j slopes atJ rests inverses roots h slants atH r e1 e2 e3 e4 e5 e6 e7 e8 e9 e10 e11 e12 e13 e14 e15 =
     rw (e15, e14, e13, e12, e11, e10, e9, e8, e7, e6, e5, e4, e3, e2, e1)
-
--- a family of n has its first m
-enough : (cs : List Float) (f : ℕ → Float) (n m : ℕ) → cs ≡ terms f n → m ≤ n → m ≤ length cs
-enough cs f n m e h = subst (λ (k : ℕ). m ≤ k) (sym (ap length e ∙ length-terms f n)) h
 
 odd-reciprocals-requires : tie.Need-odd-reciprocals-requires
 odd-reciprocals-requires c κs = search needs
