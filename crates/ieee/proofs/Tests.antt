@@ -1,6 +1,6 @@
--- Tests that are joined: what each says where all say yes, and what they say by what each says. Assumes nothing.
+-- Tests that are joined: what each says where all say yes or none does, and what they say by what each says. Assumes nothing.
 use mathlib.Core.Path.{_≡_, refl, sym}
-use mathlib.Core.Bool.{Bool, true, false, _&&_, true≢false}
+use mathlib.Core.Bool.{Bool, true, false, _&&_, _||_, true≢false}
 
 pub both : (a b : Bool) → (a && b) ≡ true → (a ≡ true) × (b ≡ true)
 both true true h = (refl, refl)
@@ -15,3 +15,9 @@ all-four a b c d h =
 
 pub tests-by : (a b c d e f g h : Bool) → a ≡ e → b ≡ f → c ≡ g → d ≡ h → (a && b && c && d) ≡ (e && f && g && h)
 tests-by a b c d e f g h p q r s = rw (p, q, r, s)
+
+pub none-of-four : (a b c d : Bool) → (a || b || c || d) ≡ false → (a ≡ false) × (b ≡ false) × (c ≡ false) × (d ≡ false)
+none-of-four true b c d e = absurd (true≢false e)
+none-of-four false true c d e = absurd (true≢false e)
+none-of-four false false true d e = absurd (true≢false e)
+none-of-four false false false d e = (refl, refl, refl, e)

@@ -1,7 +1,8 @@
 -- What the steps of round corners' solves come to are their quadrants. Assumes nothing.
-use mathlib.Core.Path.{_≡_, refl, _∙_}
-use mathlib.Core.Bool.{Bool, true, false, _||_, true≢false}
+use mathlib.Core.Path.{_≡_, refl}
+use mathlib.Core.Bool.{false}
 use lib.Ieee.{Float, le}
+use Rattle.ieee.proofs.Tests.{none-of-four}
 use Rattle.octant.specs.Octant.{closeEnough, computeOctantOf}
 use Rattle.octant.specs.Stages.{fittedOf, firstPowerOf, heightOf, slopeOf, finishedOf}
 use Rattle.octant.proofs.Solving.{solved}
@@ -9,7 +10,7 @@ use Rattle.geometry.specs.declared.Point.{Point}
 use Rattle.quadrant.specs.Quadrant.{topOffsetOf, rightOffsetOf, solvedOf}
 use Rattle.quadrant.specs.declared.Frame.{Frame}
 use Rattle.lanes.specs.declared.FourFloats.{FourFloats}
-use Rattle.quadrants.specs.Quadrants.{solvedEach, anySquare, framesEach, solvesOf, finishedQuadrant, finishedEach}
+use Rattle.quadrants.specs.Quadrants.{solvedEach, anySquare, framesEach, solveOf, solvesOf, finishedOne, finishedEach}
 use Rattle.quadrants.specs.declared.FourFrames.{FourFrames}
 use Rattle.quadrants.specs.declared.EightSolves.{EightSolves}
 use Rattle.quadrants.specs.declared.FourQuadrants.{FourQuadrants}
@@ -17,29 +18,12 @@ use Rattle.quadrants.specs.declared.FourQuadrants.{FourQuadrants}
 -- an octant, from its stages
 octant-solved : (center : Point) (a radius : Float) → le radius closeEnough ≡ false
     → finishedOf center a (fittedOf a radius) (heightOf (fittedOf a radius) (firstPowerOf (fittedOf a radius)) a) (slopeOf (fittedOf a radius) (heightOf (fittedOf a radius) (firstPowerOf (fittedOf a radius)) a))
-        ≡ computeOctantOf center a radius
+    ≡ computeOctantOf center a radius
 octant-solved center a radius e = solved center a radius _ _ _ _ _ e refl refl refl refl refl
 
--- the height and the slope of an octant
-abbrev heightAt : Float → Float → Float
-heightAt a radius = heightOf (fittedOf a radius) (firstPowerOf (fittedOf a radius)) a
-
-abbrev slopeAt : Float → Float → Float
-slopeAt a radius = slopeOf (fittedOf a radius) (heightAt a radius)
-
-corner-solved : (f : Frame) → le (f .radius) closeEnough ≡ false
-    → finishedQuadrant f (fittedOf (f .«half_size» .x) (f .radius)) (heightAt (f .«half_size» .x) (f .radius)) (slopeAt (f .«half_size» .x) (f .radius)) (fittedOf (f .«half_size» .y) (f .radius)) (heightAt (f .«half_size» .y) (f .radius)) (slopeAt (f .«half_size» .y) (f .radius))
-        ≡ solvedOf f
-unfolding finishedQuadrant solvedOf
+corner-solved : (f : Frame) → le (f .radius) closeEnough ≡ false → finishedOne f (solveOf (f .«half_size» .x) (f .radius)) (solveOf (f .«half_size» .y) (f .radius)) ≡ solvedOf f
+unfolding finishedOne solvedOf
 corner-solved f e = rw (octant-solved (topOffsetOf f) (f .«half_size» .x) (f .radius) e, octant-solved (rightOffsetOf f) (f .«half_size» .y) (f .radius) e)
-
--- no test of four says yes
-none : (a b c d : Bool) → (a || b || c || d) ≡ false → (a ≡ false) × (b ≡ false) × (c ≡ false) × (d ≡ false)
-none true b c d h = absurd (true≢false h)
-none false true c d h = absurd (true≢false h)
-none false false true d h = absurd (true≢false h)
-none false false false true h = absurd (true≢false h)
-none false false false false h = (refl, refl, refl, refl)
 
 pub all-solved : (f : FourFrames) (w h r : FourFloats) (s : EightSolves) (q : FourQuadrants) → anySquare f ≡ false
     → w ≡ framesEach (λ (p : Frame). p .«half_size» .x) f
@@ -51,5 +35,5 @@ pub all-solved : (f : FourFrames) (w h r : FourFloats) (s : EightSolves) (q : Fo
     → q ≡ solvedEach f
 unfolding anySquare
 all-solved f w h r s q e ew eh er et es eq =
-    let n = none (le (f .first .radius) closeEnough) (le (f .second .radius) closeEnough) (le (f .third .radius) closeEnough) (le (f .fourth .radius) closeEnough) e in
+    let n = none-of-four (le (f .first .radius) closeEnough) (le (f .second .radius) closeEnough) (le (f .third .radius) closeEnough) (le (f .fourth .radius) closeEnough) e in
     rw (eq, et, es, ew, eh, er, corner-solved (f .first) (n .0), corner-solved (f .second) (n .1), corner-solved (f .third) (n .2), corner-solved (f .fourth) (n .3))

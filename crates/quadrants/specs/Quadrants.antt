@@ -10,6 +10,7 @@ use Rattle.quadrant.specs.declared.Frame.{Frame}
 use Rattle.quadrant.specs.declared.Quadrant.{Quadrant}
 use Rattle.quadrants.specs.declared.FourFrames.{FourFrames}
 use Rattle.quadrants.specs.declared.FourFits.{FourFits}
+use Rattle.quadrants.specs.declared.Solve.{Solve}
 use Rattle.quadrants.specs.declared.FourSolves.{FourSolves}
 use Rattle.quadrants.specs.declared.EightSolves.{EightSolves}
 use Rattle.quadrants.specs.declared.FourQuadrants.{FourQuadrants}
@@ -35,38 +36,34 @@ fitsEach g s = record { first = g (s .first); second = g (s .second); third = g 
 abbrev pub fittedEach : FourFloats → FourFloats → FourFits
 fittedEach a radius = record { first = fittedOf (a .first) (radius .first); second = fittedOf (a .second) (radius .second); third = fittedOf (a .third) (radius .third); fourth = fittedOf (a .fourth) (radius .fourth) }
 
-abbrev pub heightsEach : FourFits → FourFloats → FourFloats
-heightsEach s a =
-    record {
-      first = heightOf (s .first) (firstPowerOf (s .first)) (a .first);
-      second = heightOf (s .second) (firstPowerOf (s .second)) (a .second);
-      third = heightOf (s .third) (firstPowerOf (s .third)) (a .third);
-      fourth = heightOf (s .fourth) (firstPowerOf (s .fourth)) (a .fourth);
-    }
-
-abbrev pub slopesEach : FourFits → FourFloats → FourFloats
-slopesEach s y = record { first = slopeOf (s .first) (y .first); second = slopeOf (s .second) (y .second); third = slopeOf (s .third) (y .third); fourth = slopeOf (s .fourth) (y .fourth) }
+-- the solve of one, and of four
+abbrev pub solveOf : Float → Float → Solve
+solveOf a radius =
+    let s = fittedOf a radius in
+    let y = heightOf s (firstPowerOf s) a in
+    record { fit = s; height = y; slope = slopeOf s y }
 
 abbrev pub solvesOf : FourFloats → FourFloats → FourSolves
-solvesOf a radius =
-    let s = fittedEach a radius in
-    record { fits = s; heights = heightsEach s a; slopes = slopesEach s (heightsEach s a) }
+solvesOf a radius = record { first = solveOf (a .first) (radius .first); second = solveOf (a .second) (radius .second); third = solveOf (a .third) (radius .third); fourth = solveOf (a .fourth) (radius .fourth) }
 
--- a quadrant, from the fits, heights and slopes of its two octants
-unfoldable pub finishedQuadrant : Frame → Fitted → Float → Float → Fitted → Float → Float → Quadrant
-finishedQuadrant f s y k t z l =
+abbrev pub gathered : FourFits → FourFloats → FourFloats → FourSolves
+gathered s y k =
+    record {
+      first = record { fit = s .first; height = y .first; slope = k .first };
+      second = record { fit = s .second; height = y .second; slope = k .second };
+      third = record { fit = s .third; height = y .third; slope = k .third };
+      fourth = record { fit = s .fourth; height = y .fourth; slope = k .fourth };
+    }
+
+-- a quadrant, from the solves of its two octants
+unfoldable pub finishedOne : Frame → Solve → Solve → Quadrant
+finishedOne f s t =
     record {
       offset = f .offset;
       «signed_scale» = f .«signed_scale»;
-      top = finishedOf (topOffsetOf f) (f .«half_size» .x) s y k;
-      right = finishedOf (rightOffsetOf f) (f .«half_size» .y) t z l;
+      top = finishedOf (topOffsetOf f) (f .«half_size» .x) (s .fit) (s .height) (s .slope);
+      right = finishedOf (rightOffsetOf f) (f .«half_size» .y) (t .fit) (t .height) (t .slope);
     }
 
 abbrev pub finishedEach : FourFrames → EightSolves → FourQuadrants
-finishedEach f s =
-    record {
-      first = finishedQuadrant (f .first) (s .top .fits .first) (s .top .heights .first) (s .top .slopes .first) (s .right .fits .first) (s .right .heights .first) (s .right .slopes .first);
-      second = finishedQuadrant (f .second) (s .top .fits .second) (s .top .heights .second) (s .top .slopes .second) (s .right .fits .second) (s .right .heights .second) (s .right .slopes .second);
-      third = finishedQuadrant (f .third) (s .top .fits .third) (s .top .heights .third) (s .top .slopes .third) (s .right .fits .third) (s .right .heights .third) (s .right .slopes .third);
-      fourth = finishedQuadrant (f .fourth) (s .top .fits .fourth) (s .top .heights .fourth) (s .top .slopes .fourth) (s .right .fits .fourth) (s .right .heights .fourth) (s .right .slopes .fourth);
-    }
+finishedEach f s = record { first = finishedOne (f .first) (s .top .first) (s .right .first); second = finishedOne (f .second) (s .top .second) (s .right .second); third = finishedOne (f .third) (s .top .third) (s .right .third); fourth = finishedOne (f .fourth) (s .top .fourth) (s .right .fourth) }

@@ -3,7 +3,7 @@
 ghost use mathlib.Core.Path.{_≡_};
 ghost use Rattle.octant.specs.declared.Fitted.{Fitted};
 ghost use Rattle.quadrant.specs.declared.Frame.{Frame};
-ghost use Rattle.quadrants.specs.Quadrants.{solvedEach, anySquare, framesEach, fitsEach, fittedEach, solvesOf, finishedQuadrant, finishedEach};
+ghost use Rattle.quadrants.specs.Quadrants.{solvedEach, anySquare, framesEach, fitsEach, fittedEach, gathered, solvesOf, finishedOne, finishedEach};
 use lanes::FourFloats;
 use octant::Fitted;
 use quadrant::Frame;
@@ -30,11 +30,18 @@ struct FourFits {
     fourth: Fitted,
 }
 
-// Four solves but for what follows the last power: the y where the arcs meet, and the slope of the tangent there.
+// An octant but for what follows its last power: the y where the arcs meet, and the slope of the tangent there.
+struct Solve {
+    fit: Fitted,
+    height: f32,
+    slope: f32,
+}
+
 struct FourSolves {
-    fits: FourFits,
-    heights: FourFloats,
-    slopes: FourFloats,
+    first: Solve,
+    second: Solve,
+    third: Solve,
+    fourth: Solve,
 }
 
 struct EightSolves {
@@ -119,8 +126,40 @@ fn starts(s: FourFits) -> FourFloats
     }
 }
 
+// The same solves, octant by octant.
+fn gather(s: FourFits, y: FourFloats, k: FourFloats) -> FourSolves
+    ensures { λ r. ⌜ r ≡ gathered s y k ⌝ }
+{
+    let first = s.first;
+    let second = s.second;
+    let third = s.third;
+    let fourth = s.fourth;
+    FourSolves {
+        first: Solve {
+            fit: first,
+            height: y.first,
+            slope: k.first,
+        },
+        second: Solve {
+            fit: second,
+            height: y.second,
+            slope: k.second,
+        },
+        third: Solve {
+            fit: third,
+            height: y.third,
+            slope: k.third,
+        },
+        fourth: Solve {
+            fit: fourth,
+            height: y.fourth,
+            slope: k.fourth,
+        },
+    }
+}
+
 // The solves of four octants with the half-extents a, and of four with the half-extents b.
-fn solve(a: FourFloats, b: FourFloats, radius: FourFloats) -> EightSolves
+fn solve_eight(a: FourFloats, b: FourFloats, radius: FourFloats) -> EightSolves
     ensures { λ r. ⌜ (r .top ≡ solvesOf a radius) × (r .right ≡ solvesOf b radius) ⌝ }
 {
     let odd = series::odd_reciprocals();
@@ -148,35 +187,25 @@ fn solve(a: FourFloats, b: FourFloats, radius: FourFloats) -> EightSolves
         lanes::divide_floats(starts(t), z),
         lanes::less_one(m),
     );
-    let k = slopes.low;
-    let l = slopes.high;
     EightSolves {
-        top: FourSolves {
-            fits: s,
-            heights: y,
-            slopes: k,
-        },
-        right: FourSolves {
-            fits: t,
-            heights: z,
-            slopes: l,
-        },
+        top: gather(s, y, slopes.low),
+        right: gather(t, z, slopes.high),
     }
 }
 
-// The quadrant of a corner, from what is solved of its octants.
-fn finish_one(f: Frame, s: Fitted, y: f32, k: f32, t: Fitted, z: f32, l: f32) -> Quadrant
-    ensures { λ r. ⌜ r ≡ finishedQuadrant f s y k t z l ⌝ }
+// The quadrant of a corner, from the solves of its octants.
+fn finish_one(f: Frame, s: Solve, t: Solve) -> Quadrant
+    ensures { λ r. ⌜ r ≡ finishedOne f s t ⌝ }
 {
     let offset = f.offset;
     let signed_scale = f.signed_scale;
-    let top = octant::finished(quadrant::top_offset(f), f.half_size.x, s, y, k);
-    let right = octant::finished(quadrant::right_offset(f), f.half_size.y, t, z, l);
+    let top_offset = quadrant::top_offset(f);
+    let right_offset = quadrant::right_offset(f);
     Quadrant {
         offset,
         signed_scale,
-        top,
-        right,
+        top: octant::finished(top_offset, f.half_size.x, s.fit, s.height, s.slope),
+        right: octant::finished(right_offset, f.half_size.y, t.fit, t.height, t.slope),
     }
 }
 
@@ -184,42 +213,10 @@ fn finish(f: FourFrames, s: EightSolves) -> FourQuadrants
     ensures { λ r. ⌜ r ≡ finishedEach f s ⌝ }
 {
     FourQuadrants {
-        first: finish_one(
-            f.first,
-            s.top.fits.first,
-            s.top.heights.first,
-            s.top.slopes.first,
-            s.right.fits.first,
-            s.right.heights.first,
-            s.right.slopes.first,
-        ),
-        second: finish_one(
-            f.second,
-            s.top.fits.second,
-            s.top.heights.second,
-            s.top.slopes.second,
-            s.right.fits.second,
-            s.right.heights.second,
-            s.right.slopes.second,
-        ),
-        third: finish_one(
-            f.third,
-            s.top.fits.third,
-            s.top.heights.third,
-            s.top.slopes.third,
-            s.right.fits.third,
-            s.right.heights.third,
-            s.right.slopes.third,
-        ),
-        fourth: finish_one(
-            f.fourth,
-            s.top.fits.fourth,
-            s.top.heights.fourth,
-            s.top.slopes.fourth,
-            s.right.fits.fourth,
-            s.right.heights.fourth,
-            s.right.slopes.fourth,
-        ),
+        first: finish_one(f.first, s.top.first, s.right.first),
+        second: finish_one(f.second, s.top.second, s.right.second),
+        third: finish_one(f.third, s.top.third, s.right.third),
+        fourth: finish_one(f.fourth, s.top.fourth, s.right.fourth),
     }
 }
 
@@ -250,5 +247,5 @@ pub fn solved(f: FourFrames) -> FourQuadrants
             fourth: quadrant::solved(f.fourth),
         };
     }
-    finish(f, solve(widths(f), heights(f), radii(f)))
+    finish(f, solve_eight(widths(f), heights(f), radii(f)))
 }

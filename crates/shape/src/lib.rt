@@ -2,7 +2,7 @@
 // With the Rust's names and in its order.
 ghost use mathlib.Core.Path.{_≡_};
 ghost use Rattle.octant.specs.Octant.{point};
-ghost use Rattle.quadrant.specs.Quadrant.{frameOf};
+ghost use Rattle.quadrant.specs.Quadrant.{frameOf, solvedOf};
 ghost use Rattle.shape.specs.Shape.{samePoint, allSame, oneQuadrant, equalShape, unequalShape, shapeOf};
 ghost use Rattle.shape.specs.Refusal.{anyOf, beyondLimit, pointBeyond, radiiBeyond, boundsBeyond, pointBelow, radiiBelow, inverted, outcomeOf, newOf};
 use geometry::Point;
@@ -94,41 +94,30 @@ fn frame_at(x: f32, y: f32, corner: Point, radii: Point, u: f32, v: f32) -> Fram
     quadrant::frame_of(Point { x, y }, corner, radii, Point { x: u, y: v })
 }
 
-fn unequal_shape(bounds: Bounds, radii: CornerRadii) -> RoundSuperellipse
-    ensures { λ r. ⌜ r ≡ unequalShape bounds radii ⌝ }
+// The four corners before their octants are solved, about the points where they divide their sides.
+fn frames(bounds: Bounds, radii: CornerRadii) -> FourFrames
+    ensures { λ r. ⌜ (solvedOf (r .first) ≡ unequalShape bounds radii .«top_right») × (solvedOf (r .second) ≡ unequalShape bounds radii .«bottom_right») × (solvedOf (r .third) ≡ unequalShape bounds radii .«bottom_left») × (solvedOf (r .fourth) ≡ unequalShape bounds radii .«top_left») ⌝ }
 {
     let min = bounds.min;
     let max = bounds.max;
-    let right_top = Point { x: max.x, y: min.y };
-    let left_bottom = Point { x: min.x, y: max.y };
-    let top_split = quadrant::split(min.x, max.x, radii.top_left.x, radii.top_right.x);
-    let right_split = quadrant::split(min.y, max.y, radii.top_right.y, radii.bottom_right.y);
-    let bottom_split = quadrant::split(min.x, max.x, radii.bottom_left.x, radii.bottom_right.x);
-    let left_split = quadrant::split(min.y, max.y, radii.top_left.y, radii.bottom_left.y);
-    let first = frame_at(
-        top_split,
-        right_split,
-        right_top,
-        radii.top_right,
-        1.0,
-        -1.0,
-    );
-    let second = frame_at(bottom_split, right_split, max, radii.bottom_right, 1.0, 1.0);
-    let third = frame_at(
-        bottom_split,
-        left_split,
-        left_bottom,
-        radii.bottom_left,
-        -1.0,
-        1.0,
-    );
-    let fourth = frame_at(top_split, left_split, min, radii.top_left, -1.0, -1.0);
-    let q = quadrants::solved(FourFrames {
-        first,
-        second,
-        third,
-        fourth,
-    });
+    let tr = Point { x: max.x, y: min.y };
+    let bl = Point { x: min.x, y: max.y };
+    let top = quadrant::split(min.x, max.x, radii.top_left.x, radii.top_right.x);
+    let right = quadrant::split(min.y, max.y, radii.top_right.y, radii.bottom_right.y);
+    let bottom = quadrant::split(min.x, max.x, radii.bottom_left.x, radii.bottom_right.x);
+    let left = quadrant::split(min.y, max.y, radii.top_left.y, radii.bottom_left.y);
+    FourFrames {
+        first: frame_at(top, right, tr, radii.top_right, 1.0, -1.0),
+        second: frame_at(bottom, right, max, radii.bottom_right, 1.0, 1.0),
+        third: frame_at(bottom, left, bl, radii.bottom_left, -1.0, 1.0),
+        fourth: frame_at(top, left, min, radii.top_left, -1.0, -1.0),
+    }
+}
+
+fn unequal_shape(bounds: Bounds, radii: CornerRadii) -> RoundSuperellipse
+    ensures { λ r. ⌜ r ≡ unequalShape bounds radii ⌝ }
+{
+    let q = quadrants::solved(frames(bounds, radii));
     let top_right = q.first;
     let bottom_right = q.second;
     let bottom_left = q.third;

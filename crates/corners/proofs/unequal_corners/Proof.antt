@@ -1,15 +1,9 @@
-use mathlib.Core.Path.{_≡_, refl, sym, _∙_}
-use mathlib.Core.Bool.{Bool, true, false, _||_, true≢false}
+use mathlib.Core.Path.{sym, _∙_}
 use borrow.Author.Needs.{needs}
+use Rattle.ieee.proofs.Tests.{none-of-four}
 use Rattle.corners.specs.Corners.{squareCorner, cornerCalls, unequalCorners}
 use Rattle.corners.proofs.unequal_corners.Statement.{statement}
 use Rattle.corners.proofs.unequal_corners.Tie as tie
-
-none-of-four : (a b c d : Bool) → (a || b || c || d) ≡ false → (a ≡ false) × (b ≡ false) × (c ≡ false) × (d ≡ false)
-none-of-four true b c d e = absurd (true≢false e)
-none-of-four false true c d e = absurd (true≢false e)
-none-of-four false false true d e = absurd (true≢false e)
-none-of-four false false false d e = (refl, refl, refl, e)
 
 any-square-requires : tie.Need-any-square-requires
 any-square-requires c κs = search needs

@@ -31,15 +31,15 @@ heights-requires c κs = search needs
 radii-requires : tie.Need-radii-requires
 radii-requires c κs = search needs
 
-solve-requires : tie.Need-solve-requires
-solve-requires c κs = search needs
+solve-eight-requires : tie.Need-solve-eight-requires
+solve-eight-requires c κs = search needs
 
 finish-requires : tie.Need-finish-requires
 finish-requires c κs = search needs
 
 returns-2 : tie.Need-returns-2
 returns-2 c =
-    all-solved (c .before .before .before .before .before .before .before .args .f) _ _ _ _ _ (sym (c .before .before .before .before .before .before .any-square .ensures) ∙ c .before .before .before .before .before .if1 .left) (c .before .before .before .before .widths .ensures) (c .before .before .before .heights .ensures) (c .before .before .radii .ensures) (c .before .solve .ensures .0) (c .before .solve .ensures .1) (c .finish .ensures)
+    all-solved (c .before .before .before .before .before .before .before .args .f) _ _ _ _ _ (sym (c .before .before .before .before .before .before .any-square .ensures) ∙ c .before .before .before .before .before .if1 .left) (c .before .before .before .before .widths .ensures) (c .before .before .before .heights .ensures) (c .before .before .radii .ensures) (c .before .solve-eight .ensures .0) (c .before .solve-eight .ensures .1) (c .finish .ensures)
 
 pub solved-spec : {M : Type 1} → statement M
 solved-spec =
@@ -54,6 +54,6 @@ solved-spec =
     widths-requires
     heights-requires
     radii-requires
-    solve-requires
+    solve-eight-requires
     finish-requires
     returns-2)

@@ -3,44 +3,15 @@ use borrow.Author.Needs.{needs}
 use Rattle.shape.proofs.unequal_shape.Statement.{statement}
 use Rattle.shape.proofs.unequal_shape.Tie as tie
 
-split-requires : tie.Need-split-requires
-split-requires c κs = search needs
+frames-requires : tie.Need-frames-requires
+frames-requires c κs = search needs
 
-split-requires-2 : tie.Need-split-requires-2
-split-requires-2 c κs = search needs
-
-split-requires-3 : tie.Need-split-requires-3
-split-requires-3 c κs = search needs
-
-split-requires-4 : tie.Need-split-requires-4
-split-requires-4 c κs = search needs
-
-quadrant-at-requires : tie.Need-quadrant-at-requires
-quadrant-at-requires c κs = search needs
-
-quadrant-at-requires-2 : tie.Need-quadrant-at-requires-2
-quadrant-at-requires-2 c κs = search needs
-
-quadrant-at-requires-3 : tie.Need-quadrant-at-requires-3
-quadrant-at-requires-3 c κs = search needs
-
-quadrant-at-requires-4 : tie.Need-quadrant-at-requires-4
-quadrant-at-requires-4 c κs = search needs
+solved-requires : tie.Need-solved-requires
+solved-requires c κs = search needs
 
 returns : tie.Need-returns
 unfolding unequalShape
-returns c = rw (← c .before .before .before .before .before .before .before .split .ensures, ← c .before .before .before .before .before .before .split2 .ensures, ← c .before .before .before .before .before .split3 .ensures, ← c .before .before .before .before .split4 .ensures, ← c .before .before .before .quadrant-at .ensures, ← c .before .before .quadrant-at2 .ensures, ← c .before .quadrant-at3 .ensures, ← c .quadrant-at4 .ensures)
+returns c = rw (c .before .before .before .before .solved .ensures, c .before .before .before .before .before .frames .ensures .0, c .before .before .before .before .before .frames .ensures .1, c .before .before .before .before .before .frames .ensures .2, c .before .before .before .before .before .frames .ensures .3)
 
 pub unequal-shape-spec : {M : Type 1} → statement M
-unequal-shape-spec =
-    tie.close
-    (tie.spec
-    split-requires
-    split-requires-2
-    split-requires-3
-    split-requires-4
-    quadrant-at-requires
-    quadrant-at-requires-2
-    quadrant-at-requires-3
-    quadrant-at-requires-4
-    returns)
+unequal-shape-spec = tie.close (tie.spec frames-requires solved-requires returns)

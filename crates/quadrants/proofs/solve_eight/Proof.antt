@@ -9,15 +9,15 @@ use Rattle.lanes.specs.declared.FourFloats.{FourFloats}
 use Rattle.powers.proofs.Laws.{first-odd, first-factorial}
 use Rattle.octant.specs.Stages.{firstPowerOf, heightOf, slopeOf}
 use Rattle.octant.specs.declared.Fitted.{Fitted}
-use Rattle.quadrants.specs.Quadrants.{fitsEach, fittedEach, solvesOf}
+use Rattle.quadrants.specs.Quadrants.{fitsEach, fittedEach, gathered, solvesOf}
 use Rattle.quadrants.specs.declared.FourFits.{FourFits}
 use Rattle.quadrants.specs.declared.FourSolves.{FourSolves}
 use borrow.Author.Needs.{needs}
-use Rattle.quadrants.proofs.solve.Statement.{statement}
-use Rattle.quadrants.proofs.solve.Tie as tie
+use Rattle.quadrants.proofs.solve_eight.Statement.{statement}
+use Rattle.quadrants.proofs.solve_eight.Tie as tie
 
 -- what the steps make of four octants
-in-step : (a radius : FourFloats) (s : FourFits) (n bases powers rests inverses roots y starts slants less slopes : FourFloats)
+in-step : (a radius : FourFloats) (s : FourFits) (n bases powers rests inverses roots y starts slants less slopes : FourFloats) (r : FourSolves)
     → s ≡ fittedEach a radius
     → n ≡ fitsEach (λ (p : Fitted). p .n) s
     → bases ≡ fitsEach (λ (p : Fitted). p .«xj_over_a») s
@@ -30,10 +30,11 @@ in-step : (a radius : FourFloats) (s : FourFits) (n bases powers rests inverses 
     → slants ≡ pairwiseFloats (div binary32) starts y
     → less ≡ eachFloat (λ (x : Float). sub binary32 x one) n
     → slopes ≡ pairwiseFloats powOf slants less
-    → _≡_ {A = FourSolves} (record { fits = s; heights = y; slopes = slopes }) (solvesOf a radius)
+    → r ≡ gathered s y slopes
+    → r ≡ solvesOf a radius
 unfolding firstPowerOf heightOf slopeOf
-in-step a radius s n bases powers rests inverses roots y starts slants less slopes e1 e2 e3 e4 e5 e6 e7 e8 e9 e10 e11 e12 =
-    rw (e12, e11, e10, e9, e8, e7, e6, e5, e4, e3, e2, e1)
+in-step a radius s n bases powers rests inverses roots y starts slants less slopes r e1 e2 e3 e4 e5 e6 e7 e8 e9 e10 e11 e12 e13 =
+    rw (e13, e12, e11, e10, e9, e8, e7, e6, e5, e4, e3, e2, e1)
 
 odd-reciprocals-requires : tie.Need-odd-reciprocals-requires
 odd-reciprocals-requires c κs = search needs
@@ -146,14 +147,20 @@ less-one-requires-2 c κs = search needs
 pow-requires-3 : tie.Need-pow-requires-3
 pow-requires-3 c κs = (first-odd _ (c .before .before .before .before .before .before .before .before .before .before .before .before .before .before .before .before .before .before .before .before .before .before .before .before .before .before .before .odd-reciprocals .ensures), first-factorial _ (c .before .before .before .before .before .before .before .before .before .before .before .before .before .before .before .before .before .before .before .before .before .before .before .before .before .before .factorial-reciprocals .ensures))
 
+gather-requires : tie.Need-gather-requires
+gather-requires c κs = search needs
+
+gather-requires-2 : tie.Need-gather-requires-2
+gather-requires-2 c κs = search needs
+
 returns : tie.Need-returns
 returns c = (
-  in-step _ _ _ _ _ _ _ _ _ _ _ _ _ _ (c .before .before .before .before .before .before .before .before .before .before .before .before .before .before .before .before .before .before .before .before .before .before .before .before .before .before .before .before .four-fits .ensures) (c .before .before .before .before .before .before .before .before .before .before .before .before .before .before .before .before .before .before .before .before .before .before .before .before .before .before .degrees .ensures) (c .before .before .before .before .before .before .before .before .before .before .before .before .before .before .before .before .before .before .before .before .before .before .bases .ensures) (c .before .before .before .before .before .before .before .before .before .before .before .before .before .before .before .before .before .before .before .before .pow .ensures .0) (c .before .before .before .before .before .before .before .before .before .before .before .before .before .before .before .before .before .complements .ensures) (c .before .before .before .before .before .before .before .before .before .before .before .before .before .before .before .before .reciprocals .ensures) (c .before .before .before .before .before .before .before .before .before .before .before .before .before .pow2 .ensures .0) (c .before .before .before .before .before .before .before .before .before .before .before .before .multiply-floats .ensures) (c .before .before .before .before .before .before .before .before .starts .ensures) (c .before .before .before .before .before .before .before .divide-floats .ensures) (c .before .before .before .before .before .before .less-one .ensures) (c .before .before .pow3 .ensures .0),
-  in-step _ _ _ _ _ _ _ _ _ _ _ _ _ _ (c .before .before .before .before .before .before .before .before .before .before .before .before .before .before .before .before .before .before .before .before .before .before .before .before .before .before .before .four-fits2 .ensures) (c .before .before .before .before .before .before .before .before .before .before .before .before .before .before .before .before .before .before .before .before .before .before .before .before .before .degrees2 .ensures) (c .before .before .before .before .before .before .before .before .before .before .before .before .before .before .before .before .before .before .before .before .before .bases2 .ensures) (c .before .before .before .before .before .before .before .before .before .before .before .before .before .before .before .before .before .before .before .before .pow .ensures .1) (c .before .before .before .before .before .before .before .before .before .before .before .before .before .before .before .complements2 .ensures) (c .before .before .before .before .before .before .before .before .before .before .before .before .before .before .reciprocals2 .ensures) (c .before .before .before .before .before .before .before .before .before .before .before .before .before .pow2 .ensures .1) (c .before .before .before .before .before .before .before .before .before .before .before .multiply-floats2 .ensures) (c .before .before .before .before .before .starts2 .ensures) (c .before .before .before .before .divide-floats2 .ensures) (c .before .before .before .less-one2 .ensures) (c .before .before .pow3 .ensures .1),
+  in-step _ _ _ _ _ _ _ _ _ _ _ _ _ _ _ (c .before .before .before .before .before .before .before .before .before .before .before .before .before .before .before .before .before .before .before .before .before .before .before .before .before .before .before .before .four-fits .ensures) (c .before .before .before .before .before .before .before .before .before .before .before .before .before .before .before .before .before .before .before .before .before .before .before .before .before .before .degrees .ensures) (c .before .before .before .before .before .before .before .before .before .before .before .before .before .before .before .before .before .before .before .before .before .before .bases .ensures) (c .before .before .before .before .before .before .before .before .before .before .before .before .before .before .before .before .before .before .before .before .pow .ensures .0) (c .before .before .before .before .before .before .before .before .before .before .before .before .before .before .before .before .before .complements .ensures) (c .before .before .before .before .before .before .before .before .before .before .before .before .before .before .before .before .reciprocals .ensures) (c .before .before .before .before .before .before .before .before .before .before .before .before .before .pow2 .ensures .0) (c .before .before .before .before .before .before .before .before .before .before .before .before .multiply-floats .ensures) (c .before .before .before .before .before .before .before .before .starts .ensures) (c .before .before .before .before .before .before .before .divide-floats .ensures) (c .before .before .before .before .before .before .less-one .ensures) (c .before .before .pow3 .ensures .0) (c .before .gather .ensures),
+  in-step _ _ _ _ _ _ _ _ _ _ _ _ _ _ _ (c .before .before .before .before .before .before .before .before .before .before .before .before .before .before .before .before .before .before .before .before .before .before .before .before .before .before .before .four-fits2 .ensures) (c .before .before .before .before .before .before .before .before .before .before .before .before .before .before .before .before .before .before .before .before .before .before .before .before .before .degrees2 .ensures) (c .before .before .before .before .before .before .before .before .before .before .before .before .before .before .before .before .before .before .before .before .before .bases2 .ensures) (c .before .before .before .before .before .before .before .before .before .before .before .before .before .before .before .before .before .before .before .before .pow .ensures .1) (c .before .before .before .before .before .before .before .before .before .before .before .before .before .before .before .complements2 .ensures) (c .before .before .before .before .before .before .before .before .before .before .before .before .before .before .reciprocals2 .ensures) (c .before .before .before .before .before .before .before .before .before .before .before .before .before .pow2 .ensures .1) (c .before .before .before .before .before .before .before .before .before .before .before .multiply-floats2 .ensures) (c .before .before .before .before .before .starts2 .ensures) (c .before .before .before .before .divide-floats2 .ensures) (c .before .before .before .less-one2 .ensures) (c .before .before .pow3 .ensures .1) (c .gather2 .ensures),
 )
 
-pub solve-spec : {M : Type 1} → statement M
-solve-spec =
+pub solve-eight-spec : {M : Type 1} → statement M
+solve-eight-spec =
     tie.close
     (tie.spec
     odd-reciprocals-requires
@@ -191,4 +198,6 @@ solve-spec =
     divide-floats-requires-2
     less-one-requires-2
     pow-requires-3
+    gather-requires
+    gather-requires-2
     returns)
