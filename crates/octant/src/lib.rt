@@ -260,7 +260,7 @@ pub struct Octants {
 }
 
 // Two solves in step. Within a solve each power waits for the one before; a power of the other solve
-// need not, so that the processor works at both at once.
+// need not, so that both are worked out at once.
 pub fn compute_octants(c1: Point, a1: f32, c2: Point, a2: f32, radius: f32) -> Octants
     ensures { λ r. ⌜ (r .first ≡ computeOctantOf c1 a1 radius) × (r .second ≡ computeOctantOf c2 a2 radius) ⌝ }
 {
@@ -272,15 +272,14 @@ pub fn compute_octants(c1: Point, a1: f32, c2: Point, a2: f32, radius: f32) -> O
     }
     let s1 = fit(a1, radius);
     let s2 = fit(a2, radius);
-    let p1 = first_power(s1);
-    let p2 = first_power(s2);
-    let y1 = height(s1, p1, a1);
-    let y2 = height(s2, p2, a2);
-    let t1 = slope(s1, y1);
-    let t2 = slope(s2, y2);
+    let p = exponential::pow_pair(s1.xj_over_a, s1.n, s2.xj_over_a, s2.n);
+    let h = exponential::pow_pair(1.0 - p.first, 1.0 / s1.n, 1.0 - p.second, 1.0 / s2.n);
+    let y1 = h.first * a1;
+    let y2 = h.second * a2;
+    let t = exponential::pow_pair(s1.xj / y1, s1.n - 1.0, s2.xj / y2, s2.n - 1.0);
     Octants {
-        first: finished(c1, a1, s1, y1, t1),
-        second: finished(c2, a2, s2, y2, t2),
+        first: finished(c1, a1, s1, y1, t.first),
+        second: finished(c2, a2, s2, y2, t.second),
     }
 }
 

@@ -1,3 +1,7 @@
+use mathlib.Core.Path.{ap}
+use lib.Ieee.{Float}
+use Rattle.octant.specs.Binary32.{_⊗_}
+use Rattle.octant.specs.Stages.{firstPowerOf, heightOf, slopeOf}
 use Rattle.octant.proofs.Solving.{solved}
 use borrow.Author.Needs.{needs}
 use Rattle.octant.proofs.compute_octants.Statement.{statement}
@@ -18,23 +22,14 @@ fit-requires c κs = search needs
 fit-requires-2 : tie.Need-fit-requires-2
 fit-requires-2 c κs = search needs
 
-first-power-requires : tie.Need-first-power-requires
-first-power-requires c κs = search needs
+pow-pair-requires : tie.Need-pow-pair-requires
+pow-pair-requires c κs = search needs
 
-first-power-requires-2 : tie.Need-first-power-requires-2
-first-power-requires-2 c κs = search needs
+pow-pair-requires-2 : tie.Need-pow-pair-requires-2
+pow-pair-requires-2 c κs = search needs
 
-height-requires : tie.Need-height-requires
-height-requires c κs = search needs
-
-height-requires-2 : tie.Need-height-requires-2
-height-requires-2 c κs = search needs
-
-slope-requires : tie.Need-slope-requires
-slope-requires c κs = search needs
-
-slope-requires-2 : tie.Need-slope-requires-2
-slope-requires-2 c κs = search needs
+pow-pair-requires-3 : tie.Need-pow-pair-requires-3
+pow-pair-requires-3 c κs = search needs
 
 finished-requires : tie.Need-finished-requires
 finished-requires c κs = search needs
@@ -43,10 +38,11 @@ finished-requires-2 : tie.Need-finished-requires-2
 finished-requires-2 c κs = search needs
 
 returns-2 : tie.Need-returns-2
+unfolding firstPowerOf heightOf slopeOf
 returns-2 c =
-    let a = c .before .before .before .before .before .before .before .before .before .before .before .args in (
-      solved (a .c1) (a .a1) (a .radius) _ _ _ _ _ (c .before .before .before .before .before .before .before .before .before .before .if1 .left) (c .before .before .before .before .before .before .before .before .before .fit .ensures) (c .before .before .before .before .before .before .before .first-power .ensures) (c .before .before .before .before .before .height .ensures) (c .before .before .before .slope .ensures) (c .before .finished .ensures),
-      solved (a .c2) (a .a2) (a .radius) _ _ _ _ _ (c .before .before .before .before .before .before .before .before .before .before .if1 .left) (c .before .before .before .before .before .before .before .before .fit2 .ensures) (c .before .before .before .before .before .before .first-power2 .ensures) (c .before .before .before .before .height2 .ensures) (c .before .before .slope2 .ensures) (c .finished2 .ensures),
+    let a = c .before .before .before .before .before .before .before .before .before .before .before .before .before .before .before .before .before .before .args in (
+      solved (a .c1) (a .a1) (a .radius) _ _ _ _ _ (c .before .before .before .before .before .before .before .before .before .before .before .before .before .before .before .before .before .if1 .left) (c .before .before .before .before .before .before .before .before .before .before .before .before .before .before .before .before .fit .ensures) (c .before .before .before .before .before .before .before .before .before .before .before .before .before .before .pow-pair .ensures .0) (ap (λ (x : Float). x ⊗ a .a1) (c .before .before .before .before .before .before .before .before .before .pow-pair2 .ensures .0)) (c .before .before .pow-pair3 .ensures .0) (c .before .finished .ensures),
+      solved (a .c2) (a .a2) (a .radius) _ _ _ _ _ (c .before .before .before .before .before .before .before .before .before .before .before .before .before .before .before .before .before .if1 .left) (c .before .before .before .before .before .before .before .before .before .before .before .before .before .before .before .fit2 .ensures) (c .before .before .before .before .before .before .before .before .before .before .before .before .before .before .pow-pair .ensures .1) (ap (λ (x : Float). x ⊗ a .a2) (c .before .before .before .before .before .before .before .before .before .pow-pair2 .ensures .1)) (c .before .before .pow-pair3 .ensures .1) (c .finished2 .ensures),
     )
 
 pub compute-octants-spec : {M : Type 1} → statement M
@@ -58,12 +54,9 @@ compute-octants-spec =
     returns
     fit-requires
     fit-requires-2
-    first-power-requires
-    first-power-requires-2
-    height-requires
-    height-requires-2
-    slope-requires
-    slope-requires-2
+    pow-pair-requires
+    pow-pair-requires-2
+    pow-pair-requires-3
     finished-requires
     finished-requires-2
     returns-2)
