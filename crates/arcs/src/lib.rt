@@ -1,6 +1,9 @@
 // What the outline draws of an octant, in the octant's own space, and where a point of it is placed: two conics for
 // the superellipse arc, and the four points of a cubic for the circular one.
 // Binary32 throughout, every operation rounded once, with the Rust's names and in its order.
+
+#![tactic(auto)]
+
 ghost use Rattle.std.specs.Prelude.{◌≡◌, ◌+◌, ◌<◌};
 ghost use Rattle.arcs.specs.Conics.{conic_at, capped_degree, superellipse_conic_factors_of, intersection_of, meeting_of, joined_of, superellipse_conics_of};
 ghost use Rattle.arcs.specs.Circle.{arc_points_of, circular_arc_points_of};

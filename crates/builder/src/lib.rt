@@ -1,5 +1,8 @@
 // The six building calls: each takes the record by value and the two buffers lent, counts its need
 // before anything is written, and writes all or nothing.
+
+#![tactic(auto)]
+
 ghost use Rattle.std.specs.Prelude.{◌≡◌, ◌+◌, ◌-◌, ◌*◌, ◌≤◌, length};
 ghost use Rattle.stream.specs.Stream.{state, is_empty, push_all};
 ghost use Rattle.lowering.specs.Entries.{elements_of};

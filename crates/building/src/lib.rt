@@ -1,4 +1,7 @@
 // A building call given as a value, so that the theorem about every list of them (specs/Demand3.antt) is about the code that runs.
+
+#![tactic(auto)]
+
 ghost use Rattle.std.specs.Prelude.{◌≡◌};
 ghost use Rattle.stream.specs.Stream.{state};
 ghost use Rattle.calls.specs.Calls.{conic_outcome_of};

@@ -1,5 +1,8 @@
 // The six building calls as values: what each needs, whether buffers have room for it, and the
 // answers.
+
+#![tactic(auto)]
+
 ghost use Rattle.std.specs.Prelude.{◌≡◌, ◌++◌};
 ghost use Rattle.stream.specs.Stream.{is_empty, need_of};
 ghost use Rattle.lowering.specs.Entries.{elements_of, lowered_of};

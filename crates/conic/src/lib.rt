@@ -1,5 +1,8 @@
 // The Rust's push_conic: a conic becomes one line, or 1 to 64 quads that halving leaves. Every float
 // operation stands in the order of the Rust.
+
+#![tactic(auto)]
+
 ghost use Rattle.std.specs.Prelude.{◌≡◌, ℕ, ◌≤◌, length};
 ghost use Rattle.conic.specs.Conic.{conic_at, is_line, lower_of, conic_mid, quad_mid, distance_of, chord_of, near_one_of, near_of, flat_of, surely_near, surely_far, flatness_of, half_weight_of, split_of, halves_of};
 ghost use Rattle.conic.specs.Halving.{halve, count_of};

@@ -1,5 +1,8 @@
 // Whether a shape contains a point, by the curve itself. It refuses nothing: a NaN follows IEEE comparison.
 // Binary32 throughout, every operation rounded once, with the Rust's names and in its order.
+
+#![tactic(auto)]
+
 ghost use Rattle.std.specs.Prelude.{◌≡◌, cond, ◌&&◌, ◌||◌};
 ghost use Rattle.std.specs.Float.Ieee.{lt};
 ghost use Rattle.ieee.specs.Basic.{abs_of};

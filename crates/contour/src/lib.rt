@@ -1,5 +1,8 @@
 // What an outline adds to a path, and how much it needs, counted from the drawn corners: each conic runs from the pen
 // that the segment before it left.
+
+#![tactic(auto)]
+
 ghost use Rattle.std.specs.Prelude.{◌≡◌, ◌∷◌, []};
 ghost use Rattle.stream.specs.Stream.{need_of, origin};
 ghost use Rattle.lowering.specs.Entries.{elements_of};

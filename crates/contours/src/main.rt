@@ -1,6 +1,9 @@
 // Draws lists of triangles twice, each way on buffers of its own: by the calls that take the record by
 // value, then by the calls over a lent record. It writes the answers and the streams as the oracle does for
 // the list in the file stdin; of an accepted call over a lent record there is nothing to write.
+
+#![tactic(auto)]
+
 mod lines;
 
 use calls::Built;

@@ -1,5 +1,8 @@
 // What the outline of a shape draws, as placed points: a corner is two lines, or two octants of two conics and a cubic
 // each. An octant's curves are solved once, wherever they are placed.
+
+#![tactic(auto)]
+
 ghost use Rattle.std.specs.Prelude.{◌≡◌, true, false, ◌||◌};
 ghost use Rattle.geometry.specs.Point.{one, mul_of};
 ghost use Rattle.octant.specs.Octant.{point};

@@ -1,5 +1,8 @@
 // The power function as document 01's float ground writes it out. The steps are f64, each rounded
 // once in the order written there; only the result is narrowed.
+
+#![tactic(auto)]
+
 ghost use Rattle.std.specs.Prelude.{◌≡◌, false, cond, T, pos, ◌+ℤ◌, ◌<◌};
 ghost use Rattle.std.specs.Float.Ieee.Positive.{positive};
 ghost use Rattle.std.specs.Float.{binary32, binary64, inf};

@@ -1,5 +1,8 @@
 // The functions for programs in C and Rust, under names of their own. Each is the library's function
 // of the same name, for every argument.
+
+#![tactic(auto)]
+
 ghost use Rattle.std.specs.Prelude.{◌≡◌};
 ghost use Rattle.std.specs.Float.{binary32};
 ghost use Rattle.ieee.specs.Narrow.{narrow_of};

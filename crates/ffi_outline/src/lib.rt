@@ -1,6 +1,9 @@
 // Outlines for programs in C and Rust: drawing one, what an outline or a conic needs, and whether the
 // outline and the touch area of a shape keep together. Shapes stand in 89 floats that the caller lends,
 // records in three whole numbers and four floats.
+
+#![tactic(auto)]
+
 ghost use Rattle.std.specs.Prelude.{◌≡◌, length};
 ghost use Rattle.octant.specs.Octant.{point};
 ghost use Rattle.ffi_path.specs.Lent.{left};

@@ -1,5 +1,8 @@
 // Panel files for programs in C and Rust: the records one by one, and where touches go. A place is
 // whole numbers that the caller lends: an offset, an index or a count goes there.
+
+#![tactic(auto)]
+
 ghost use Rattle.std.specs.Prelude.{◌≡◌, [], ◌∷◌, ◌++◌, ◌+◌, ◌≤◌, length, take, drop};
 ghost use Rattle.stream.specs.Stream.{put, floats_in};
 ghost use Rattle.octant.specs.Octant.{point};

@@ -2,6 +2,9 @@
 // three whole ones (verb count, point count, joint word) and four floats (the contour's start, the
 // pen), beside the two buffers. Every call returns 0, or document 01's number, and then no slice has
 // changed.
+
+#![tactic(auto)]
+
 ghost use Rattle.std.specs.Prelude.{◌≡◌, List, ℕ, Float, length};
 ghost use Rattle.calls.specs.Calls.{outcome_of, conic_outcome_of};
 ghost use Rattle.ffi_path.specs.Lent.{point, builder_at, counts_of, places_of, fitting, left, left_by, lent_step};

@@ -1,5 +1,8 @@
 // Reading for programs in C and Rust: the segment at a cursor, and the box. Record, cursor, segment and
 // box stand in numbers that the caller lends.
+
+#![tactic(auto)]
+
 ghost use Rattle.std.specs.Prelude.{◌≡◌, List, ℕ, length};
 ghost use Rattle.reader.specs.Reading.{ok, item_of, answer_of};
 ghost use Rattle.reader.specs.Bounds.{bounds_answer};

@@ -1,5 +1,8 @@
 // Shapes for programs in C and Rust: a shape is made once, into floats that the caller lends, and asked
 // as often as is liked.
+
+#![tactic(auto)]
+
 ghost use Rattle.std.specs.Prelude.{◌≡◌, true, false, cond, ◌+◌, ◌≤◌, length};
 ghost use Rattle.geometry.specs.Point.{one, sub_of, div_of};
 ghost use Rattle.octant.specs.Binary32.{zero};

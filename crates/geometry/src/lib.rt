@@ -1,5 +1,8 @@
 // Points of the plane and their arithmetic in binary32: document 01's rules for the Rust's Vec2.
 // Every operation is rounded once, in the order written.
+
+#![tactic(auto)]
+
 ghost use Rattle.std.specs.Prelude.{◌≡◌};
 ghost use Rattle.ieee.specs.Basic.{abs_of};
 ghost use Rattle.geometry.specs.Point.{add_of, sub_of, mul_of, div_of, scale_of, shrink_of, neg_of, abs_point, finite_point, length_squared_of, distance_squared_of, length_of, normalize_of};

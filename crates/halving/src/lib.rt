@@ -1,5 +1,8 @@
 // The points of the quads that halving leaves of a conic, written behind those of a buffer, and the joint word that marks
 // where they start. Verbs are written above, in lowering.
+
+#![tactic(auto)]
+
 ghost use mathlib.Core.Path.{◌≡◌};
 ghost use mathlib.Core.Bool.{false, cond};
 ghost use mathlib.Core.List.{◌∷◌, []};

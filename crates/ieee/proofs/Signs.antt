@@ -18,7 +18,7 @@ unfolding units
 up-units f q k = go (ltb (q * 2 ^ k) (2 ^ (low f + suc (emax f))))
   where
     go : (b : Bool) → Up (cond b (odd (suc (prec f)) false q k (low f)) (inf false))
-    go true = up-odd _ q k _
+    go true = up-odd (suc (prec f)) q k (low f)
     go false = tt
 
 pub up_round : (f : Format) (a c : ℕ) → Up (round f false a c)

@@ -1,5 +1,8 @@
 // Operations of IEEE 754 that the language lacks: the changes of width, the square root, and the
 // simple ones that document 01 names. Nothing is cast with loss; every public function is total.
+
+#![tactic(auto)]
+
 mod cubic;
 
 ghost use Rattle.std.specs.Prelude.{◌≡◌, ℕ, ◌+◌, ◌-◌, ◌*◌, ◌/◌, ◌%◌, ◌^◌, ◌<◌, ◌≤◌, true, to_bits};

@@ -1,4 +1,7 @@
 // Standard input as one array of bytes, for the programs that read a whole file.
+
+#![tactic(auto)]
+
 ghost use Rattle.std.specs.Prelude.{length};
 ghost use Rattle.input.specs.Input.{Further, Within};
 

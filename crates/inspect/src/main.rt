@@ -1,5 +1,8 @@
 // Reads a panel file on standard input and tells of each button whether its outline and its touch
 // area keep together. Only a file that was read to its end is reported on.
+
+#![tactic(auto)]
+
 use input::Input;
 use libc::{STDERR_FILENO, STDOUT_FILENO};
 

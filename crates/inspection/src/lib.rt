@@ -1,5 +1,8 @@
 // Whether the outline and the touch area of a shape keep together: no center lies outside the bounds, so that no corner looks
 // the wrong way, and every point of the outline is finite.
+
+#![tactic(auto)]
+
 ghost use Rattle.std.specs.Prelude.{◌≡◌};
 ghost use Rattle.inspection.specs.Inspection.{within_bounds, centered, all_finite, finite_outline, consistent_of};
 

@@ -1,5 +1,8 @@
 // The report of the program `inspect` on a panel file, whole: of each button, whether its outline and
 // its touch area keep together.
+
+#![tactic(auto)]
+
 ghost use Rattle.std.specs.Prelude.{◌≡◌, true, ◌++◌, ◌+◌, ◌<◌, ◌≤◌, length, drop};
 ghost use Rattle.io.specs.Counts.{IsPrefixLen as Counts·of};
 ghost use Rattle.panel_file.specs.Panel.{records_of, is_done, records_in};

@@ -1,4 +1,7 @@
 // What a line of the program replay's input asks for (docs/REPLAY.md).
+
+#![tactic(auto)]
+
 ghost use Rattle.std.specs.Prelude.{◌≡◌};
 ghost use Rattle.text.specs.Numbers.{same_text};
 ghost use Rattle.items.specs.Items.{counts_of, has_words, of_counts, of_record, of_two, of_four, of_floats, of_shape, of_name, has_counts, of_words, item_of};

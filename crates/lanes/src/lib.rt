@@ -1,5 +1,8 @@
 // Numbers four by four, so that a processor works at several at once: none waits for another. Horner's scheme goes two times
 // four, which is as many as the registers of a processor hold, or four times four where so many are asked for at once.
+
+#![tactic(auto)]
+
 ghost use Rattle.std.specs.Prelude.{◌≡◌, Float};
 ghost use Rattle.std.specs.Float.{binary32, binary64};
 ghost use Rattle.std.specs.Float.Ieee.{sub, mul, div};

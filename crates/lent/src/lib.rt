@@ -1,4 +1,7 @@
 // The second face of the calls move, line and close: the builder record is lent, and changes in place.
+
+#![tactic(auto)]
+
 ghost use Rattle.std.specs.Prelude.{◌≡◌};
 ghost use Rattle.stream.specs.Stream.{state};
 ghost use Rattle.calls.specs.Calls.{step};

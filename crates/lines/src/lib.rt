@@ -1,5 +1,8 @@
 // Standard input line by line, through two buffers that the caller lends: one for a piece of the input,
 // one for a line. No contract can say what is read.
+
+#![tactic(auto)]
+
 ghost use Rattle.std.specs.Prelude.{◌≡◌, ◌+◌, ◌≤◌, length};
 ghost use Rattle.lines.specs.Lines.{fresh};
 

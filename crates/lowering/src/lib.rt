@@ -1,5 +1,8 @@
 // Writing a conic behind the held elements: one line, or the quads that halving leaves, with the
 // joint word that marks where they start.
+
+#![tactic(auto)]
+
 ghost use Rattle.std.specs.Prelude.{◌≡◌, false, cond, ◌∷◌, [], ◌+◌, ◌*◌, ◌^◌, ◌<◌, ◌≤◌, length, drop, get_or, set, replicate};
 ghost use Rattle.std.specs.Float.{nan};
 ghost use Rattle.conic.specs.Conic.{conic_at, distance_of, chord_of, near_one_of, near_of, flat_of, surely_near, surely_far, flatness_of, half_weight_of};

@@ -1,5 +1,8 @@
 // One eighth of the outline, solved: a superellipse arc that hands over to a circular arc with the same tangent.
 // Binary32 throughout, every operation rounded once, with the Rust's names and in its order.
+
+#![tactic(auto)]
+
 ghost use Rattle.std.specs.Prelude.{◌≡◌, ◌+◌, ◌<◌};
 ghost use Rattle.octant.specs.Degree.{corner_at, left_row_of, table_steps_of, n_and_xj_of};
 ghost use Rattle.octant.specs.Octant.{circle_center_through_of, angle_between_of, compute_octant_of, moved_of};

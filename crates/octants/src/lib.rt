@@ -1,5 +1,8 @@
 // What is drawn of eight octants, all in step: each power and each turn of the one is worked out beside the same of the
 // others.
+
+#![tactic(auto)]
+
 ghost use Rattle.std.specs.Prelude.{◌≡◌, Float};
 ghost use Rattle.std.specs.Float.Ieee.{neg};
 ghost use Rattle.geometry.specs.Point.{one};

@@ -1,4 +1,7 @@
 // The floats that the words of a line spell, and the bounds and radii that twelve of them are.
+
+#![tactic(auto)]
+
 ghost use Rattle.std.specs.Prelude.{◌≡◌};
 ghost use Rattle.operands.specs.Operands.{with_next, over_words, operands_of, bounds_of, radii_of};
 

@@ -1,5 +1,8 @@
 // The outline of a shape as a building call: its need is counted before anything is written, and it is written whole or
 // not at all.
+
+#![tactic(auto)]
+
 ghost use Rattle.std.specs.Prelude.{◌≡◌};
 ghost use mathlib.Core.List.{◌∷◌, [], flatten};
 ghost use Rattle.stream.specs.Stream.{state, origin, need_of};

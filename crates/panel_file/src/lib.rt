@@ -1,5 +1,8 @@
 // Panel files: records of a payload's length, a kind and the payload, little-endian, at most 65,536
 // bytes. Whatever a file holds, reading it answers its records or document 01's cause 7.
+
+#![tactic(auto)]
+
 ghost use Rattle.std.specs.Prelude.{◌≡◌, ◌+◌, ◌<◌, ◌≤◌, length};
 ghost use Rattle.std.specs.Float.{binary32};
 ghost use Rattle.std.specs.Float.Ieee.{of_bits};

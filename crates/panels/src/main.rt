@@ -1,5 +1,8 @@
 // Reports on the panel files of a text on standard input, as the program `fascia` would on each:
 // docs/ORACLE.md says what the text is. A line that is bad ends the run with `bad`.
+
+#![tactic(auto)]
+
 use libc::{STDIN_FILENO, STDOUT_FILENO};
 use text::{Class, Number};
 

@@ -2,6 +2,9 @@
 // one before; those of another power need not. Two calls for eight after each other do not overlap, so sixteen have functions of
 // their own. Eight are lent the coefficients of both series: where the compiler sees how many there are, it writes the steps out, one
 // pair of powers after the other, and the processor waits; from a loop over sixteen it keeps them side by side.
+
+#![tactic(auto)]
+
 ghost use Rattle.std.specs.Prelude.{◌≡◌, true};
 ghost use Rattle.series.specs.Coefficients.{odd_reciprocal, factorial_reciprocal, terms};
 ghost use Rattle.lanes.specs.Lanes.{each, pairwise_floats};

@@ -1,5 +1,8 @@
 // One quarter of the outline: two octants of a corner that is solved round and stretched back.
 // Binary32 throughout, every operation rounded once, with the Rust's names and in its order.
+
+#![tactic(auto)]
+
 ghost use Rattle.std.specs.Prelude.{◌≡◌, true};
 ghost use Rattle.octant.specs.Octant.{compute_octant_of};
 ghost use Rattle.quadrant.specs.Quadrant.{forward_scale_of, or_sign_of, frame_of, top_offset_of, right_offset_of, solved_of, compute_quadrant_of, both_zero, split_of};

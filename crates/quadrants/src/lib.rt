@@ -1,5 +1,8 @@
 // The four quadrants of a shape whose corners differ: their eight octants are solved in step, each power of the one beside the
 // same of the others.
+
+#![tactic(auto)]
+
 ghost use Rattle.std.specs.Prelude.{◌≡◌};
 ghost use Rattle.octant.specs.declared.Fitted.{Fitted};
 ghost use Rattle.quadrant.specs.declared.Frame.{Frame};

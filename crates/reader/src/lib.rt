@@ -1,5 +1,8 @@
 // Reading a stream: one segment at a cursor, the part of the lent floats that it consumes, and the
 // least box round all points.
+
+#![tactic(auto)]
+
 ghost use Rattle.std.specs.Prelude.{◌≡◌, ◌+◌, ◌-◌, ◌*◌, ◌≤◌, length};
 ghost use Rattle.stream.specs.Stream.{point_count, state};
 ghost use Rattle.reader.specs.Reading.{point_at, element_at, segment_of, read_at, answer_of, part_at, floats_at};

@@ -1,5 +1,8 @@
 // Runs building calls, reads streams and asks shapes, one item a line of standard input, and writes
 // what the library answers.
+
+#![tactic(auto)]
+
 mod answers;
 mod session;
 

@@ -1,5 +1,8 @@
 // The lines that the program replay writes (docs/REPLAY.md), as text in a lent buffer. A writer takes the index
 // to write at and gives the index past its text.
+
+#![tactic(auto)]
+
 ghost use Rattle.std.specs.Prelude.{◌≡◌};
 ghost use Rattle.text.specs.Written.{decimal_text, hexadecimal_text, single_text};
 ghost use Rattle.replies.specs.Replies.{written, ◌▸◌, put_counts, put_point, put_segment, put_next, put_record, put_done, put_numbered, put_box, put_worded, put_reply, put_line};

@@ -1,4 +1,7 @@
 // The report on a panel file, as the program `fascia` prints it: document 01's "Program `fascia`" whole.
+
+#![tactic(auto)]
+
 ghost use Rattle.std.specs.Prelude.{◌≡◌, true, ◌++◌, ◌<◌, length, drop};
 ghost use Rattle.io.specs.Counts.{IsPrefixLen as Counts·of};
 ghost use Rattle.shape.specs.Refusal.{outcome_of};

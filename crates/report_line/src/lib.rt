@@ -1,4 +1,7 @@
 // The lines of the reports on a panel file, as `fascia` and `inspect` print them.
+
+#![tactic(auto)]
+
 ghost use Rattle.std.specs.Prelude.{◌≡◌, ◌++◌, ◌+◌, ◌≤◌, length, take};
 ghost use Rattle.io.specs.Counts.{IsPrefixLen};
 ghost use Rattle.text.specs.Written.{decimal_text};

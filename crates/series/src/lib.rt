@@ -1,5 +1,8 @@
 // Horner's scheme, and the two families of coefficients that the power series of document 01's float
 // ground draw on.
+
+#![tactic(auto)]
+
 ghost use Rattle.std.specs.Prelude.{◌≡◌};
 ghost use Rattle.std.specs.Float.{binary64};
 ghost use Rattle.series.specs.Horner.{horner_of};

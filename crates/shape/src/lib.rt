@@ -1,5 +1,8 @@
 // A rounded superellipse: four quadrants, made of bounds and corner radii, or a refusal.
 // With the Rust's names and in its order.
+
+#![tactic(auto)]
+
 ghost use Rattle.std.specs.Prelude.{◌≡◌};
 ghost use Rattle.octant.specs.Octant.{point};
 ghost use Rattle.quadrant.specs.Quadrant.{frame_of, solved_of};

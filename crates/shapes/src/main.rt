@@ -3,6 +3,9 @@
 // answer is every field of every quadrant and octant, then `1` where one quadrant stands for all and
 // `0` elsewhere; `refused` and the number of the cause; `bad` for a line that is no shape; nothing
 // for a line with no word. A `#` starts a comment. A line has at most 1,024 bytes.
+
+#![tactic(auto)]
+
 mod fields;
 
 use libc::STDOUT_FILENO;

@@ -1,5 +1,8 @@
 // A path as a stream over two lent buffers: a byte per verb, two floats per point. The record of what
 // is held goes by value.
+
+#![tactic(auto)]
+
 ghost use Rattle.std.specs.Prelude.{◌≡◌, ◌∷◌, [], ◌+◌, ◌*◌, ◌^◌, ◌<◌, ◌≤◌, length};
 ghost use Rattle.stream.specs.Stream.{put, point_count, fresh_builder, is_empty, bad_record, has_room, advance_of, state, push};
 

@@ -1,5 +1,8 @@
 // Which button of a panel file a touch goes to: document 01's module 7, for one point and for all
 // touches of the file at once.
+
+#![tactic(auto)]
+
 ghost use Rattle.std.specs.Prelude.{◌≡◌, true, false, ◌+◌, ◌*◌, ◌<◌, ◌≤◌, ◌++◌, length, take, drop, replicate};
 ghost use Rattle.shape.specs.Refusal.{outcome_of};
 ghost use Rattle.containment.specs.Contains.{contains_of};

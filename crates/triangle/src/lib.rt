@@ -1,5 +1,8 @@
 // A closed triangle, drawn by the calls over a lent record: the record is a local, lent to one call
 // after the other. Its parameters are plain, so whoever calls it needs no walk by hand.
+
+#![tactic(auto)]
+
 ghost use Rattle.std.specs.Prelude.{◌≡◌};
 ghost use Rattle.stream.specs.Stream.{state};
 ghost use Rattle.triangle.specs.Triangle.{sides, trace_of, drawn};

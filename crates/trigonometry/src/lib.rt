@@ -1,5 +1,8 @@
 // Sine, cosine, tangent and the angle of a point, as document 01's float ground writes them out. The
 // steps are f64, each rounded once in the order written there; only the results are narrowed.
+
+#![tactic(auto)]
+
 ghost use Rattle.std.specs.Prelude.{◌≡◌, cond, not, ◌&&◌, ◌||◌};
 ghost use Rattle.std.specs.Float.Ieee.Scale.{finite};
 ghost use Rattle.std.specs.Float.{binary64};

@@ -1,5 +1,8 @@
 // Sines, cosines and tangents of eight angles, in step: none waits for another. The angles that have none (a NaN, a magnitude
 // over 8) are rare: where one of the eight is such, each goes alone.
+
+#![tactic(auto)]
+
 ghost use Rattle.std.specs.Prelude.{◌≡◌, Float};
 ghost use Rattle.std.specs.Float.{binary64};
 ghost use Rattle.std.specs.Float.Ieee.{sub, mul, div};

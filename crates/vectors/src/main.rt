@@ -2,6 +2,9 @@
 // the hexadecimal digits of a float's bits or `nan`. The answer is a float or two, written so, or
 // `0` or `1`; `bad` for a line that is no vector; nothing for a line with no word. A `#` starts a
 // comment. A line has at most 1,024 bytes.
+
+#![tactic(auto)]
+
 mod functions;
 
 use functions::Answer;
