@@ -33,7 +33,7 @@ const STEP: f32 = 1.0;
 
 const MIN_N: f32 = 2.0;
 
-#[derive(Drop)]
+#[derive(Clone, Copy)]
 pub struct ConicFactors {
     pub weight1: f32,
     pub weight2: f32,
@@ -41,7 +41,7 @@ pub struct ConicFactors {
 }
 
 // Two conics, from a on the flat side to h with the control c1, and on to j, where the circle starts, with the control c2.
-#[derive(Drop)]
+#[derive(Clone, Copy)]
 pub struct SuperellipseConics {
     pub c1: Point,
     pub h: Point,
@@ -59,7 +59,7 @@ pub struct BothConics {
 }
 
 // The map from an octant's own space out to the shape's.
-#[derive(Drop)]
+#[derive(Clone, Copy)]
 pub struct Placement {
     pub offset: Point,
     pub scale: Point,

@@ -9,7 +9,7 @@ ghost use Rattle.conic.specs.Halving.{halve, count_of};
 
 use geometry::Point;
 
-#[derive(Drop)]
+#[derive(Clone, Copy)]
 pub struct Conic {
     pub from: Point,
     pub ctrl: Point,
@@ -41,7 +41,7 @@ pub struct BySquares {
 }
 
 // What a conic is drawn as: one line, or the quads of a curve.
-#[derive(Drop)]
+#[derive(Clone, Copy)]
 pub enum Lowered {
     Line(Point),
     Curve(Conic),

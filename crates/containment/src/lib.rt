@@ -176,7 +176,7 @@ pub fn contains(shape: RoundSuperellipse, p: Point) -> bool
 
 // What a corner's circular arcs ask of a point, for a quick test of many points: most points outside lie beyond an arc.
 // In each pair x is the top octant's number and y the right one's, so that both are tested in one go.
-#[derive(Drop)]
+#[derive(Clone, Copy)]
 pub struct Arcs {
     pub offset: Point,
     pub signed_scale: Point,

@@ -10,7 +10,7 @@ use calls::Built;
 use geometry::Point;
 use stream::Builder;
 
-#[derive(Drop)]
+#[derive(Clone, Copy)]
 enum Face {
     ByValue,
     Lent,

@@ -17,7 +17,7 @@ use quadrant::Quadrant;
 use shape::RoundSuperellipse;
 
 // What is drawn of an octant, in its own space.
-#[derive(Drop)]
+#[derive(Clone, Copy)]
 pub struct Curves {
     pub circle: [Point; 4],
     pub conics: SuperellipseConics,
@@ -31,14 +31,14 @@ struct BothCurves {
 }
 
 // A conic from the pen, and a cubic.
-#[derive(Drop)]
+#[derive(Clone, Copy)]
 pub struct ConicArc {
     pub ctrl: Point,
     pub to: Point,
     pub weight: f32,
 }
 
-#[derive(Drop)]
+#[derive(Clone, Copy)]
 pub struct CubicArc {
     pub c0: Point,
     pub c1: Point,
@@ -46,33 +46,33 @@ pub struct CubicArc {
 }
 
 // An octant that is drawn forwards, from the flat side on, and one that is drawn backwards.
-#[derive(Drop)]
+#[derive(Clone, Copy)]
 pub struct Forwards {
     pub first: ConicArc,
     pub second: ConicArc,
     pub circle: CubicArc,
 }
 
-#[derive(Drop)]
+#[derive(Clone, Copy)]
 pub struct Backwards {
     pub circle: CubicArc,
     pub second: ConicArc,
     pub first: ConicArc,
 }
 
-#[derive(Drop)]
+#[derive(Clone, Copy)]
 pub struct RoundCorner {
     pub forwards: Forwards,
     pub backwards: Backwards,
 }
 
-#[derive(Drop)]
+#[derive(Clone, Copy)]
 pub enum Corner {
     Square(Point, Point),
     Round(RoundCorner),
 }
 
-#[derive(Drop)]
+#[derive(Clone, Copy)]
 pub struct Corners {
     pub first: Corner,
     pub second: Corner,
@@ -81,7 +81,7 @@ pub struct Corners {
 }
 
 // Begun by a move to the start, ended by a line to it and a close.
-#[derive(Drop)]
+#[derive(Clone, Copy)]
 pub struct Outline {
     pub start: Point,
     pub corners: Corners,

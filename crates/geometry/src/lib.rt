@@ -7,7 +7,7 @@ ghost use Rattle.std.specs.Prelude.{◌≡◌};
 ghost use Rattle.ieee.specs.Basic.{abs_of};
 ghost use Rattle.geometry.specs.Point.{add_of, sub_of, mul_of, div_of, scale_of, shrink_of, neg_of, abs_point, finite_point, length_squared_of, distance_squared_of, length_of, normalize_of};
 
-#[derive(Drop)]
+#[derive(Clone, Copy)]
 pub struct Point {
     pub x: f32,
     pub y: f32,

@@ -9,7 +9,7 @@ ghost use Rattle.std.specs.Float.Ieee.{sub, mul, div};
 ghost use Rattle.series.specs.Horner.{horner_of};
 ghost use Rattle.lanes.specs.Lanes.{one, alike_of, each, pairwise, each_float, pairwise_floats, step_of, widened, narrowed, all_regular};
 
-#[derive(Drop)]
+#[derive(Clone, Copy)]
 pub struct Four {
     pub first: f64,
     pub second: f64,
@@ -17,19 +17,19 @@ pub struct Four {
     pub fourth: f64,
 }
 
-#[derive(Drop)]
+#[derive(Clone, Copy)]
 pub struct Eight {
     pub low: Four,
     pub high: Four,
 }
 
-#[derive(Drop)]
+#[derive(Clone, Copy)]
 pub struct Sixteen {
     pub first: Eight,
     pub second: Eight,
 }
 
-#[derive(Drop)]
+#[derive(Clone, Copy)]
 pub struct FourFloats {
     pub first: f32,
     pub second: f32,
@@ -37,7 +37,7 @@ pub struct FourFloats {
     pub fourth: f32,
 }
 
-#[derive(Drop)]
+#[derive(Clone, Copy)]
 pub struct EightFloats {
     pub low: FourFloats,
     pub high: FourFloats,

@@ -50,7 +50,7 @@ const THIRD_N_SLOPE: f32 = 1.559_599_4;
 const THIRD_KXJ_SLOPE: f32 = 0.522_807_2;
 
 // One eighth of the outline, in the space of a corner with equal radii. A degree below 2 marks a square corner.
-#[derive(Drop)]
+#[derive(Clone, Copy)]
 pub struct Octant {
     pub offset: Point,
     pub se_a: f32,
@@ -178,7 +178,7 @@ pub fn angle_between(from: Point, to: Point) -> f32
 }
 
 // What an octant is solved from: the gap at the corner, the degree, and the x where the arcs meet, also as a part of the half-extent.
-#[derive(Drop)]
+#[derive(Clone, Copy)]
 pub struct Fitted {
     pub g: f32,
     pub n: f32,

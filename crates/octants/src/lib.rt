@@ -17,7 +17,7 @@ use geometry::Point;
 use lanes::FourFloats;
 use octant::Octant;
 
-#[derive(Drop)]
+#[derive(Clone, Copy)]
 pub struct FourOctants {
     pub first: Octant,
     pub second: Octant,
@@ -54,7 +54,7 @@ pub struct EightArcs {
     pub high: FourArcs,
 }
 
-#[derive(Drop)]
+#[derive(Clone, Copy)]
 struct FourFactors {
     first: ConicFactors,
     second: ConicFactors,
@@ -62,7 +62,7 @@ struct FourFactors {
     fourth: ConicFactors,
 }
 
-#[derive(Drop)]
+#[derive(Clone, Copy)]
 struct FourPoints {
     first: Point,
     second: Point,

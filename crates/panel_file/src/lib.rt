@@ -17,7 +17,7 @@ pub const LIMIT: usize = 65536;
 // The bytes in front of a payload: its length and its kind.
 pub const HEADER: usize = 4;
 
-#[derive(Drop)]
+#[derive(Clone, Copy)]
 pub enum Kind {
     Button,
     Touch,
@@ -30,7 +30,7 @@ enum KindFound {
 }
 
 // Bounds and corner radii, as the file has them.
-#[derive(Drop)]
+#[derive(Clone, Copy)]
 pub struct Button {
     pub min: Point,
     pub max: Point,
@@ -51,7 +51,7 @@ struct Fields {
     bottom_right: usize,
 }
 
-#[derive(Drop)]
+#[derive(Clone, Copy)]
 pub enum Record {
     Button(Button),
     Touch(Point),

@@ -11,7 +11,7 @@ use geometry::Point;
 use octant::{Octant, Octants};
 
 // Two octants that meet on the diagonal.
-#[derive(Drop)]
+#[derive(Clone, Copy)]
 pub struct Quadrant {
     pub offset: Point,
     pub signed_scale: Point,
@@ -67,7 +67,7 @@ fn two_octants(from: Point, to: Point, half_size: Point, radius: f32) -> Octants
 }
 
 // A corner before its octants are solved: each half-extent as if the corner were round, and its radius.
-#[derive(Drop)]
+#[derive(Clone, Copy)]
 pub struct Frame {
     pub offset: Point,
     pub signed_scale: Point,

@@ -12,7 +12,7 @@ use lanes::FourFloats;
 use octant::Fitted;
 use quadrant::{Frame, Quadrant};
 
-#[derive(Drop)]
+#[derive(Clone, Copy)]
 pub struct FourFrames {
     pub first: Frame,
     pub second: Frame,
@@ -28,7 +28,7 @@ pub struct FourQuadrants {
     pub fourth: Quadrant,
 }
 
-#[derive(Drop)]
+#[derive(Clone, Copy)]
 struct FourFits {
     first: Fitted,
     second: Fitted,

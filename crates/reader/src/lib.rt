@@ -12,13 +12,13 @@ use geometry::Point;
 use stream::Builder;
 
 // A place in a stream.
-#[derive(Drop)]
+#[derive(Clone, Copy)]
 pub struct Cursor {
     pub verb: usize,
     pub point: usize,
 }
 
-#[derive(Drop)]
+#[derive(Clone, Copy)]
 pub enum Segment {
     Move(Point),
     Line(Point),

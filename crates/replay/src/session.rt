@@ -9,7 +9,7 @@ use shape::{Answer, RoundSuperellipse};
 use stream::Builder;
 
 // What is current. The buffers of a raw stream grow until it is asked something.
-#[derive(Drop)]
+#[derive(Clone, Copy)]
 pub enum Kind {
     Nothing,
     List,
@@ -19,7 +19,7 @@ pub enum Kind {
 
 // The current record, how much of the buffers is lent, the number of the line, and whether a bad line
 // has ended it all.
-#[derive(Drop)]
+#[derive(Clone, Copy)]
 pub struct Session {
     pub kind: Kind,
     pub builder: Builder,

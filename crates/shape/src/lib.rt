@@ -16,13 +16,13 @@ use quadrants::FourFrames;
 // The largest magnitude that a component of the bounds or the radii may have.
 const LIMIT: f32 = 16384.0;
 
-#[derive(Drop)]
+#[derive(Clone, Copy)]
 pub struct Bounds {
     pub min: Point,
     pub max: Point,
 }
 
-#[derive(Drop)]
+#[derive(Clone, Copy)]
 pub struct CornerRadii {
     pub top_left: Point,
     pub top_right: Point,
@@ -31,7 +31,7 @@ pub struct CornerRadii {
 }
 
 // Where all corners are the same, one quadrant describes all four, and containment mirrors the point.
-#[derive(Drop)]
+#[derive(Clone, Copy)]
 pub struct RoundSuperellipse {
     pub top_right: Quadrant,
     pub bottom_right: Quadrant,

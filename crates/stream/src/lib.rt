@@ -11,7 +11,7 @@ use geometry::Point;
 // How much of the buffers is held, the contour's start and the pen. Start and pen mean nothing while
 // no verb is held. The counts stand apart: side by side they would be read as one, and the processor waits where
 // two writes are read at once.
-#[derive(Drop)]
+#[derive(Clone, Copy)]
 pub struct Builder {
     pub verbs: usize,
     pub start: Point,

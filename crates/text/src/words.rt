@@ -3,7 +3,7 @@ ghost use Rattle.std.specs.Prelude.{◌≡◌, ◌≤◌, length};
 ghost use Rattle.text.specs.Words.{belongs_to, leading_of, after_blanks, first_word, after_word};
 
 // What a byte of a line may belong to.
-#[derive(Drop)]
+#[derive(Clone, Copy)]
 pub enum Class {
     Blank,
     Word,

@@ -1,0 +1,7 @@
+use Rattle.geometry.specs.Point.{add_of}
+use mathlib.Core.Path.{refl}
+use Rattle.geometry.proofs.add.Goals as goal
+
+pub returns : goal.returns
+unfolding add_of
+returns c = refl

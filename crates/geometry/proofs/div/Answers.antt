@@ -1,0 +1,7 @@
+use Rattle.geometry.specs.Point.{div_of}
+use mathlib.Core.Path.{refl}
+use Rattle.geometry.proofs.div.Goals as goal
+
+pub returns : goal.returns
+unfolding div_of
+returns c = refl

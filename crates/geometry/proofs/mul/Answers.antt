@@ -1,0 +1,7 @@
+use Rattle.geometry.specs.Point.{mul_of}
+use mathlib.Core.Path.{refl}
+use Rattle.geometry.proofs.mul.Goals as goal
+
+pub returns : goal.returns
+unfolding mul_of
+returns c = refl

@@ -1,0 +1,7 @@
+use Rattle.geometry.specs.Point.{neg_of}
+use mathlib.Core.Path.{refl}
+use Rattle.geometry.proofs.neg.Goals as goal
+
+pub returns : goal.returns
+unfolding neg_of
+returns c = refl

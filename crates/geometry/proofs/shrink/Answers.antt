@@ -1,0 +1,7 @@
+use Rattle.geometry.specs.Point.{shrink_of}
+use mathlib.Core.Path.{refl}
+use Rattle.geometry.proofs.shrink.Goals as goal
+
+pub returns : goal.returns
+unfolding shrink_of
+returns c = refl

@@ -1,0 +1,7 @@
+use Rattle.geometry.specs.Point.{sub_of}
+use mathlib.Core.Path.{refl}
+use Rattle.geometry.proofs.sub.Goals as goal
+
+pub returns : goal.returns
+unfolding sub_of
+returns c = refl
