@@ -6,4 +6,4 @@ use Rattle.quadrant.proofs.compute_quadrant.Goals as goal
 pub returns : goal.returns
 returns c =
     let a = c.args in
-    c.solved.ensures ∙ ap solved_of c.frame_of.ensures ∙ framed a.center a.corner a.in-radii a.sign
+    c.solved.ensures ∙ ap solved_of c.frame_of.ensures ∙ framed a.center a.corner a.in_radii a.sign

@@ -9,7 +9,7 @@ use Rattle.quadrant.proofs.two_octants.Goals as goal
 pub returns-then-is_one_float : goal.returns-then-is_one_float
 returns-then-is_one_float c =
     let a = c.args in
-    let half = a.half-size in
+    let half = a.half_size in
     let same = c.is_one_float.ensures c.if-is_one_float.true in (
       c.compute_octant-top.ensures,
       c.moved.ensures
