@@ -1,12 +1,12 @@
 -- t/LN2 + 0.5 lies within 1000 of 0 for every t from -110 to 100: a bound on a magnitude goes through a rounding. Assumes nothing.
 use mathlib.Core.Path.{◌≡◌, refl, sym, ap, ◌∙◌, subst}
-use mathlib.Core.Bool.{Bool, true, false, not, ◌&&◌, ◌||◌, cond, true≢false}
+use mathlib.Core.Bool.{Bool, true, false, ◌&&◌, ◌||◌, cond, true≢false}
 use Prim.Native.Nat.{ℕ, zero, suc, ◌+◌, ◌-◌, ◌*◌, ◌^◌, ◌≤◌, ◌<◌}
 use native.Mathlib.Nat.{mul-one, le_of_mul-le-mul_right, mul_right_comm}
 use native.Mathlib.Omega.{arith}
 use borrow.Author.Tests.{ltb-false}
 use lib.Dec.{T, ltb, eqb, ltb→lt, lt→ltb, eqb→eq}
-use lib.Ieee.{Float, Format, nan, inf, fin, binary64, of_bits, prec, emax, low, neg, add, div, sum, round, units, odd, lt, le, eq, ne, up, down}
+use lib.Ieee.{Float, Format, nan, inf, fin, binary64, of_bits, neg, add, div, sum, round, units, odd, lt, le, eq, ne, up, down}
 use lib.Ieee.Fits.{and_i, down_pos}
 use lib.Ieee.Exact.{HasValue}
 use lib.Ieee.Back.{round_whole}

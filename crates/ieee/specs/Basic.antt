@@ -1,5 +1,5 @@
 -- The simple operations of document 01's float ground, over both formats: `Float` holds the values of either, so a definition serves each width. Definitions only.
-use Rattle.std.specs.Prelude.{true, false, cond, Float}
+use Rattle.std.specs.Prelude.{false, cond, Float}
 use Rattle.std.specs.Float.{nan, inf, fin}
 use Rattle.std.specs.Float.Ieee.{lt, ne}
 

@@ -1,5 +1,5 @@
 -- Four numbers are what each of them is; Horner's scheme at four places. Assumes nothing.
-use mathlib.Core.Path.{◌≡◌, refl, sym, ap, ◌∙◌}
+use mathlib.Core.Path.{◌≡◌, sym, ap, ◌∙◌}
 use mathlib.Core.List.{List}
 use Prim.Native.Nat.{ℕ, suc, ◌<◌, ◌-◌}
 use native.Mathlib.Omega.{arith}

@@ -1,14 +1,13 @@
 -- Document 01's examples f and h, by computation. Assumes nothing.
 use mathlib.Core.Path.{◌≡◌, refl}
 use mathlib.Core.Bool.{true}
-use lib.Ieee.{Float, binary32, of_bits, add, sub, mul, div, neg, lt, le, eq, round, of_int, to_unsigned}
+use lib.Ieee.{binary32, of_bits, add, sub, mul, div, neg, lt, le, eq, round, of_int, to_unsigned}
 use Rattle.ieee.specs.Basic.{clamp_of}
 use Rattle.geometry.specs.declared.Point.{Point}
 use Rattle.geometry.specs.Point.{one}
 use Rattle.octant.specs.Binary32.{zero, two}
 use Rattle.octant.specs.Degree.{corner_at, first_max_ratio, second_max_ratio, table_steps_of, n_and_xj_of}
 use Rattle.octant.specs.Octant.{close_enough, point, compute_octant_of}
-use Rattle.octant.specs.declared.Octant.{Octant}
 
 -- opens the float operations and the solver's definitions at once
 unfoldable opened : Unit {0}

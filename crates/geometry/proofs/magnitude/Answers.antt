@@ -5,7 +5,7 @@ use Prim.Native.Nat.{ℕ, zero, suc, ◌+◌, ◌-◌, ◌*◌}
 use native.Mathlib.Nat.{zero-mul, mul-pos}
 use native.Mathlib.Omega.{arith}
 use lib.Dec.{T, ltb, lt→ltb}
-use lib.IntN.{ℤ, pos}
+use lib.IntN.{ℤ}
 use lib.Ieee.{Float, nan, inf, fin, binary32, of_bits, neg, add, sub, sum, lt, fits, round, up, down}
 use lib.Ieee.Fits.{up_pos, down_pos, neg-fits}
 use Rattle.ieee.specs.Basic.{abs_of}

@@ -1,5 +1,5 @@
 -- `ieee::lowered` meets its contract: r is never too low. Assumes nothing.
-use Rattle.std.proofs.Common.{◌-◌, arith}
+use Rattle.std.proofs.Common.{arith}
 use Rattle.ieee.proofs.Steps.{square_bound, down-one}
 use Rattle.ieee.proofs.lowered.Goals as goal
 

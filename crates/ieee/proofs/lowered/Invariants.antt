@@ -1,5 +1,5 @@
 -- `ieee::lowered` meets its contract: r is never too low. Assumes nothing.
-use Rattle.std.proofs.Common.{◌+◌, ◌-◌, ◌*◌, ◌^◌, ◌≤◌}
+use Rattle.std.proofs.Common.{◌+◌, ◌*◌, ◌^◌, ◌≤◌}
 use Rattle.ieee.proofs.lowered.Given as goal
 
 abbrev pub invariant-loop-r : goal.invariant-loop-r

@@ -1,5 +1,5 @@
 -- `ieee::pattern` meets its contract. Assumes nothing.
-use Rattle.std.proofs.Common.{ℕ, ◌+◌, ◌-◌, ◌*◌, true, false, sym, ap, ◌∙◌, arith}
+use Rattle.std.proofs.Common.{ℕ, ◌+◌, ◌-◌, ◌*◌, sym, ap, ◌∙◌, arith}
 use Rattle.ieee.proofs.Narrowing.{kept_hi, pattern_over, pattern_normal, pattern_small, pattern_tiny}
 use Rattle.ieee.proofs.pattern.Goals as goal
 

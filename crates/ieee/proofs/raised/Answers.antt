@@ -1,5 +1,5 @@
 -- `ieee::raised` meets its contract: r is at most one step past what is too low. Assumes nothing.
-use Rattle.std.proofs.Common.{◌-◌, arith}
+use Rattle.std.proofs.Common.{arith}
 use Rattle.ieee.proofs.Steps.{square_bound, room, up_one}
 use Rattle.ieee.proofs.raised.Goals as goal
 

@@ -2,7 +2,6 @@
 use Rattle.std.proofs.Common.{◌≡◌, ℕ, ◌+◌, ◌-◌, ◌*◌, ◌/◌, ◌%◌, ◌^◌, ◌<◌, ap, ◌∙◌, mod-eq_of_lt, one-mul, arith, pow_pos}
 use native.Mathlib.Nat.{pow-succ'}
 use lib.Pow.{pow-lt}
-use lib.Ieee.Nearest.{closest}
 use Rattle.ieee.proofs.HalfEven.{closest-by-sum}
 use Rattle.ieee.proofs.shifted.Goals as goal
 use Rattle.ieee.proofs.shifted.Goals.{Start}

@@ -3,7 +3,6 @@ use mathlib.Core.Path.{◌≡◌, ◌∙◌}
 use Prim.Native.Nat.{◌<◌}
 use native.Mathlib.Omega.{arith}
 use lib.ListN.{length}
-use Rattle.lanes.specs.Lanes.{each}
 use Rattle.lanes.proofs.Laws.{none_each, last-each, down-each}
 use Rattle.lanes.proofs.horner.Goals as goal
 

@@ -1,6 +1,6 @@
 -- `octant::left_row` meets its contract. The loop's invariant: the row reached is at most the last, and at most the whole part of `steps`.
 use mathlib.Core.Path.{sym, ◌∙◌}
-use Prim.Native.Nat.{◌+◌, ◌-◌}
+use Prim.Native.Nat.{◌+◌}
 use native.Mathlib.Omega.{arith}
 use borrow.Author.Tests.{leb-true, leb-false}
 use lib.Ieee.{to_unsigned}

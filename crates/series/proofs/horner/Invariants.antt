@@ -1,6 +1,6 @@
 -- The invariant: k is a place of the list, and h is Horner's value of the coefficients from k on. Assumes nothing.
 use mathlib.Core.Path.{◌≡◌}
-use Prim.Native.Nat.{◌<◌, ◌-◌}
+use Prim.Native.Nat.{◌<◌}
 use lib.ListN.{length, drop}
 use lib.Ieee.{binary64}
 use Rattle.series.specs.Horner.{horner_of}

@@ -1,6 +1,6 @@
 -- As `horner`'s invariant, for both places. Assumes nothing.
 use mathlib.Core.Path.{◌≡◌}
-use Prim.Native.Nat.{◌<◌, ◌-◌}
+use Prim.Native.Nat.{◌<◌}
 use lib.ListN.{length, drop}
 use lib.Ieee.{binary64}
 use Rattle.series.specs.Horner.{horner_of}
