@@ -1,7 +1,7 @@
 -- Sines, cosines and tangents of four angles side by side. Definitions only.
 use Rattle.std.specs.Prelude.{Bool, not, ◌&&◌, ◌||◌, Float}
 use Rattle.std.specs.Float.Ieee.{lt, ne}
-use Rattle.ieee.specs.Basic.{widen_of, abs_of}
+use Rattle.ieee.specs.Basic.{abs_of}
 use Rattle.lanes.specs.declared.Four.{Four}
 use Rattle.lanes.specs.declared.FourFloats.{FourFloats}
 use Rattle.lanes.specs.Lanes.{each, each_float, pairwise, widened}
