@@ -1,16 +1,16 @@
 -- Pieces whose spans tile a stretch: how many there are, how large their word is, and where they start.
-use mathlib.Core.Path.{◌≡◌, refl, sym, ap, ap₂, subst, ◌∙◌}
+use mathlib.Core.Path.{◌≡◌, refl, sym, ap, subst, ◌∙◌}
 use mathlib.Core.List.{List, [], ◌∷◌, ◌++◌}
-use mathlib.Core.Bool.{Bool, true, false, cond, ◌||◌}
-use Prim.Native.Nat.{ℕ, zero, suc, ◌+◌, ◌-◌, ◌*◌, ◌^◌, ◌≤◌, ◌<◌}
-use native.Mathlib.Nat.{add_assoc, two-pow-succ, add-mul, one-mul, mul_assoc, zero-mul}
+use mathlib.Core.Bool.{false}
+use Prim.Native.Nat.{ℕ, suc, ◌+◌, ◌*◌, ◌^◌, ◌≤◌, ◌<◌}
+use native.Mathlib.Nat.{two-pow-succ, add-mul, one-mul, mul_assoc, zero-mul}
 use native.Mathlib.Numerals.{add-one}
 use native.Mathlib.Omega.{arith}
 use lib.ListN.{length}
 use lib.Pow.{pow_pos, pow_mono, pow-add}
 use borrow.Author.Tests.{ne_eqb}
 use Rattle.conic.specs.Halving.{Piece, word_of}
-use Rattle.conic.specs.Spans.{Tiles, Dyadic, AllDyadic, starts_at}
+use Rattle.conic.specs.Spans.{Tiles, AllDyadic, starts_at}
 
 pub tiles_append : (a b : ℕ) (d : ℕ) (xs ys : List Piece) → Tiles a xs b → Tiles b ys d → Tiles a (xs ++ ys) d
 unfolding Tiles

@@ -1,7 +1,7 @@
 -- Halving a whole conic leaves what document 01 says of it.
 use mathlib.Core.Path.{◌≡◌, refl, sym, ap, subst, ◌∙◌}
 use mathlib.Core.List.{List, [], ◌∷◌, ◌++◌}
-use Prim.Native.Nat.{ℕ, zero, suc, ◌+◌, ◌*◌, ◌^◌, ◌≤◌, ◌<◌}
+use Prim.Native.Nat.{ℕ, suc, ◌+◌, ◌*◌, ◌^◌, ◌≤◌, ◌<◌}
 use native.Mathlib.Nat.{two-pow-succ, pow-suc, mul_assoc, mul_comm, add-mul, one-mul}
 use native.Mathlib.Omega.{arith}
 use lib.ListN.{length}
@@ -10,8 +10,8 @@ use lib.Pow.{pow_mono, pow_pos}
 use Rattle.geometry.specs.declared.Point.{Point}
 use Rattle.conic.specs.declared.Conic.{Conic}
 use Rattle.conic.specs.Conic.{split_of}
-use Rattle.conic.specs.Halving.{Piece, piece_of, halve, pieces_of, word_of}
-use Rattle.conic.specs.Spans.{Tiles, Dyadic, AllDyadic, last_target, WholeConic}
+use Rattle.conic.specs.Halving.{Piece, halve, pieces_of, word_of}
+use Rattle.conic.specs.Spans.{Tiles, AllDyadic, last_target, WholeConic}
 use Rattle.conic.proofs.Halving.{halve_ind}
 use Rattle.conic.proofs.Tiling.{Sized, sized_append, tiles_append, dyadic_append, tiles-length, tiles-some, tiles-marked, tiles-word}
 use Rattle.conic.proofs.Bits.{marks}

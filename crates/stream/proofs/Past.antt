@@ -7,7 +7,7 @@ use lib.ListN.{length, take, drop, length-append}
 use lib.Seq.{drop-append-add, drop-drop, length-take-le}
 use Rattle.stream.specs.declared.Element.{Element}
 use Rattle.stream.specs.declared.Element.TheVariants.{Move, Line, Quad, Cubic, Close}
-use Rattle.stream.specs.Stream.{put, verb_of, floats_of, bytes_of, all_floats, size_of, sizes_of, advance_of, State, push, push_all, Fits}
+use Rattle.stream.specs.Stream.{put, verb_of, floats_of, bytes_of, all_floats, size_of, sizes_of, advance_of, State, push, push_all}
 use Rattle.stream.proofs.Put.{length-put, put_nil, put-after}
 use Rattle.stream.proofs.Push.{sizes_cons}
 
