@@ -1,11 +1,12 @@
-// Standard input as one array of bytes, for the programs that read a whole file.
+// An input as one array of bytes, for the programs that read a whole file: standard input, which `main` hands
+// in, or any other reader.
 
 #![tactic(auto)]
 
 ghost use Rattle.std.specs.Prelude.{length};
 ghost use Rattle.input.specs.Input.{Further, Within};
 
-use libc::STDIN_FILENO;
+use std::io::Read;
 
 #[derive(Drop)]
 enum Step {
@@ -23,17 +24,15 @@ pub enum Input {
 }
 
 // One read behind the bytes already held.
-fn read_more(file: &mut [u8], held: usize) -> Step
+fn read_more<R: Read>(input: &mut R, file: &mut [u8], held: usize) -> Step
     ensures { Further held (length file.old) result }
 {
     if held >= file.len() {
         return Step::End;
     }
-    let got = libc::read(STDIN_FILENO, &mut file[held..]);
-    if got < 0 {
+    let Ok(n) = input.read(&mut file[held..]) else {
         return Step::Failed;
-    }
-    let n = io::count(got, &file[held..]);
+    };
     if n == 0 {
         return Step::End;
     }
@@ -41,12 +40,12 @@ fn read_more(file: &mut [u8], held: usize) -> Step
 }
 
 // The input to its end, or as much as the file has room for.
-pub fn read_all(file: &mut [u8]) -> Input
+pub fn read_all<R: Read>(input: &mut R, file: &mut [u8]) -> Input
     ensures { Within (length file.old) result }
 {
     let mut held = 0;
     loop {
-        match read_more(file, held) {
+        match read_more(input, file, held) {
             Step::More(n) => held = n,
             Step::End => return Input::Whole(held),
             Step::Failed => return Input::Failed,

@@ -1,12 +1,12 @@
-// Standard input line by line, through two buffers that the caller lends: one for a piece of the input,
-// one for a line. No contract can say what is read.
+// An input line by line, through two buffers that the caller lends: one for a piece of the input, one for a
+// line. `main` hands in standard input; no contract can say what is read there.
 
 #![tactic(auto)]
 
 ghost use Rattle.std.specs.Prelude.{◌≡◌, ◌+◌, ◌≤◌, length};
 ghost use Rattle.lines.specs.Lines.{fresh};
 
-use libc::STDIN_FILENO;
+use std::io::Read;
 use text::Class;
 
 // The part of the piece that is still to be taken, how many bytes of the line are held, one more than
@@ -46,14 +46,14 @@ fn hold(line: &mut [u8], held: usize, part: &[u8]) -> usize
 }
 
 // A new piece, once the last is taken.
-fn refill(r: Reader, piece: &mut [u8]) -> Reader
+fn refill<R: Read>(input: &mut R, r: Reader, piece: &mut [u8]) -> Reader
     ensures { result.held ≡ r.held }
 {
     if r.at < r.end {
         return r;
     }
-    let got = libc::read(STDIN_FILENO, piece);
-    if got <= 0 {
+    let got = input.read(piece).unwrap_or(0);
+    if got == 0 {
         return Reader {
             at: 0,
             end: 0,
@@ -63,7 +63,7 @@ fn refill(r: Reader, piece: &mut [u8]) -> Reader
     }
     Reader {
         at: 0,
-        end: io::count(got, piece),
+        end: got,
         held: r.held,
         ended: false,
     }
@@ -110,14 +110,14 @@ fn take_part(r: Reader, piece: &[u8], line: &mut [u8]) -> Part
 // The next line, in the first `held` bytes of its buffer. The last line, with which the input ends, may be
 // empty. A proved loop has to end, and nothing says that the input does: the turns are counted down from a
 // number that no run uses up.
-pub fn next(r: Reader, piece: &mut [u8], line: &mut [u8]) -> Reader
+pub fn next<R: Read>(input: &mut R, r: Reader, piece: &mut [u8], line: &mut [u8]) -> Reader
     ensures { result.held ≤ length line.new + 1 }
 {
     let mut r = r;
     r.held = 0;
     let mut turns = u64::MAX;
     while turns > 0 {
-        r = refill(r, piece);
+        r = refill(input, r, piece);
         if r.ended {
             return r;
         }

@@ -1,19 +1,18 @@
 -- A text written into a buffer, and how many digits a number takes. Assumes nothing.
 use Prim.Native.Nat.{ℕ, zero, suc, ◌+◌, ◌-◌, ◌^◌, ◌≤◌, ◌<◌}
-use mathlib.Core.Path.{◌≡◌, refl, sym, ap, ◌∙◌, subst}
+use mathlib.Core.Path.{◌≡◌, refl, sym, subst}
 use mathlib.Core.Bool.{Bool, true, false, not, cond}
-use mathlib.Core.Logic.{◌⊎◌, inl, inr}
-use mathlib.Core.List.{List, [], ◌∷◌, ◌++◌}
+use mathlib.Core.List.{List}
 use native.Mathlib.Nat.{le_antisymm, lt_of_lt_of_le, pow-le-pow_right}
 use native.Mathlib.Omega.{arith}
 use borrow.Author.Tests.{le-leb, lt-leb, ltb-true, ltb-false}
 use lib.Dec.{T, ltb, lit<, lit≤}
-use lib.ListN.{length, take, drop}
+use lib.ListN.{length}
 use lib.Seq.{paste, take-length}
 use lib.Ieee.{Float, nan, inf, fin, binary32, binary64, to_bits, is_nan}
 use Rattle.io.specs.Digits.{last_digits, IsDigitCount}
 use Rattle.text.specs.Numbers.{nan_text}
-use Rattle.text.specs.Written.{Wrote, put_text, past_text, places, hexadecimal_text, decimal_text, single_text, double_text}
+use Rattle.text.specs.Written.{Wrote, put_text, past_text, places, single_text, double_text}
 
 module _ (l : List ℕ) (at : ℕ) (t : List ℕ) where
   pub no_room : length l < at + length t → Wrote l at t at l

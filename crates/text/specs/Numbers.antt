@@ -1,5 +1,5 @@
 -- What a word spells: a number below 2 ^ 64 in decimal or lower-case hexadecimal digits, or a float by its bits. Definitions only.
-use Rattle.std.specs.Prelude.{ℕ, ◌+◌, ◌-◌, ◌*◌, ◌^◌, Bool, true, false, ◌&&◌, cond, List, [], ◌∷◌, length, eqb, leb, ltb, Float}
+use Rattle.std.specs.Prelude.{ℕ, ◌+◌, ◌-◌, ◌*◌, ◌^◌, Bool, true, false, cond, List, [], ◌∷◌, length, eqb, leb, ltb}
 use Rattle.std.specs.Float.{nan, binary32, binary64}
 use Rattle.std.specs.Float.Ieee.{of_bits}
 use Rattle.text.specs.declared.numbers.Number.{Number}

@@ -1,5 +1,5 @@
 -- The words of a line of text, and where a line ends. A line is the list of its bytes. Definitions only.
-use Rattle.std.specs.Prelude.{ℕ, suc, Bool, true, false, not, ◌&&◌, cond, List, [], ◌∷◌, take, drop, eqb}
+use Rattle.std.specs.Prelude.{ℕ, suc, Bool, false, not, cond, List, [], ◌∷◌, take, drop, eqb}
 use Rattle.text.specs.declared.words.Class.{Class}
 use Rattle.text.specs.declared.words.Class.TheVariants.{Blank, Word, Line}
 

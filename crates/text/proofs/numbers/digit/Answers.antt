@@ -1,0 +1,36 @@
+-- `text::numbers::digit` meets its contract. Assumes nothing.
+use borrow.Author.Tests.{lt-ltb, le-ltb, le-leb, lt-leb}
+use Rattle.text.specs.Numbers.{digit_of}
+use Rattle.text.proofs.numbers.digit.Goals as goal
+
+pub returns-then-b-lt48 : goal.returns-then-b-lt48
+unfolding digit_of
+returns-then-b-lt48 c = rw (lt-ltb _ _ c.if-b-lt48.true)
+
+pub returns-then-b-le57 : goal.returns-then-b-le57
+unfolding digit_of
+returns-then-b-le57 c = rw (le-ltb _ _ c.if-b-lt48.false, le-leb _ _ c.if-b-le57.true)
+
+pub returns-then-b-lt97 : goal.returns-then-b-lt97
+unfolding digit_of
+returns-then-b-lt97 c = rw (le-ltb _ _ c.if-b-lt48.false, lt-leb _ _ c.if-b-le57.false, lt-ltb _ _ c.if-b-lt97.true)
+
+pub returns-then-b-le102 : goal.returns-then-b-le102
+unfolding digit_of
+returns-then-b-le102 c =
+    rw (
+      le-ltb _ _ c.if-b-lt48.false,
+      lt-leb _ _ c.if-b-le57.false,
+      le-ltb _ _ c.if-b-lt97.false,
+      le-leb _ _ c.if-b-le102.true,
+    )
+
+pub returns : goal.returns
+unfolding digit_of
+returns c =
+    rw (
+      le-ltb _ _ c.if-b-lt48.false,
+      lt-leb _ _ c.if-b-le57.false,
+      le-ltb _ _ c.if-b-lt97.false,
+      lt-leb _ _ c.if-b-le102.false,
+    )
