@@ -1,0 +1,5 @@
+use mathlib.Core.Path.{refl}
+use Rattle.octants.proofs.negated_angles.Goals as goal
+
+pub returns : goal.returns
+returns c = refl
