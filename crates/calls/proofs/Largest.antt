@@ -1,7 +1,7 @@
 -- Room for the largest need of a conic is room for any conic.
-use mathlib.Core.Path.{◌≡◌, refl, sym, ap, ◌∙◌}
+use mathlib.Core.Path.{◌≡◌, refl, sym, ◌∙◌}
 use mathlib.Core.List.{◌++◌}
-use mathlib.Core.Bool.{Bool, true, false, cond, ◌&&◌}
+use mathlib.Core.Bool.{Bool, true, false}
 use Prim.Native.Nat.{ℕ, ◌+◌, ◌*◌, ◌/◌, ◌≤◌}
 use native.Mathlib.Omega.{arith}
 use borrow.Author.Tests.{leb-true, le-leb}
@@ -13,7 +13,7 @@ use Rattle.conic.specs.Halving.{pieces_of}
 use Rattle.conic.proofs.Whole.{halve-few}
 use Rattle.stream.specs.declared.Builder.{Builder}
 use Rattle.stream.specs.declared.Need.{Need}
-use Rattle.stream.specs.Stream.{is_empty, has_room, need_of}
+use Rattle.stream.specs.Stream.{has_room, need_of}
 use Rattle.stream.proofs.Tests.{and_left, and_right}
 use Rattle.lowering.specs.Entries.{elements_of, lowered_of}
 use Rattle.lowering.proofs.Entries.{lowered_line, lowered_curve}

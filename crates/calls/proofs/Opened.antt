@@ -1,12 +1,10 @@
 -- A call that adds es, behind the opening move where the path is empty: its need, its room and its outcome.
-use mathlib.Core.Path.{◌≡◌, refl, sym, ap, ap₂, ◌∙◌}
+use mathlib.Core.Path.{◌≡◌, refl, sym, ap, ◌∙◌}
 use mathlib.Core.List.{List, [], ◌∷◌, ◌++◌}
 use Prim.Native.Nat.{ℕ, ◌+◌, ◌-◌, ◌*◌, ◌≤◌}
 use native.Mathlib.Omega.{arith}
 use lib.ListN.{length, length-append}
 use lib.Ieee.{Float}
-use types.Run.{OneOf}
-use denote.Enum.Declared.{tag_of}
 use Rattle.geometry.specs.declared.Point.{Point}
 use Rattle.conic.specs.declared.Conic.{Conic}
 use Rattle.conic.specs.declared.Lowered.{Lowered}
@@ -15,7 +13,7 @@ use Rattle.conic.specs.Halving.{word_of}
 use Rattle.stream.specs.declared.Builder.{Builder}
 use Rattle.stream.specs.declared.Element.{Element}
 use Rattle.stream.specs.declared.Need.{Need}
-use Rattle.stream.specs.Stream.{State, state, is_empty, need_of, push, push_all, size_of, sizes_of}
+use Rattle.stream.specs.Stream.{State, is_empty, need_of, push, push_all, size_of, sizes_of}
 use Rattle.stream.proofs.Tests.{room-is}
 use Rattle.stream.proofs.Push.{push_all-one, push_all_append, push_all-verbs, push-all_points, sizes_append, sizes-one}
 use Rattle.lowering.specs.Entries.{Entry, plain, elements_of, pieces_in, joint_word, lowered_of}
@@ -25,7 +23,6 @@ use Rattle.calls.specs.declared.Built.TheVariants.{Done, BadRecord, NoRoom}
 use Rattle.calls.specs.declared.ConicBuilt.{ConicBuilt}
 use Rattle.calls.specs.declared.Call.TheVariants as call
 use Rattle.calls.specs.Calls.{opening, opened_need, conic_from, entries_of, outcome, attempt, step, admit_of, with_word, outcome_of, conic_outcome_of}
-use Rattle.calls.specs.contracts.Built.{the_type}
 use Rattle.calls.proofs.Opening.{word-opened, opened-need, opening_count, opening-size}
 use Rattle.calls.proofs.Admission.{Admitted, admitted_for, refused-is, done-is}
 
@@ -54,7 +51,7 @@ module _ (s : State) (es : List Entry) where
   abbrev AdmittedHere : Type 0
   AdmittedHere = Admitted s.builder (length s.verbs) (length s.floats) (need_of (elements_of opened))
 
-  pub opened-refused : (n : Need) (r : Built) → n ≡ need_of (elements_of opened) → r ≡ admit_of s.builder (length s.verbs) (length s.floats) n → OneOf (1 ∷ 2 ∷ []) (tag_of the_type r) → outcome_of r s.verbs s.floats ≡ attempt s opened
+  pub opened-refused : (n : Need) (r : Built) → n ≡ need_of (elements_of opened) → r ≡ admit_of s.builder (length s.verbs) (length s.floats) n → ((b : Builder) → r ≡ Done b → ⊥) → outcome_of r s.verbs s.floats ≡ attempt s opened
   opened-refused n r e a h = refused-is s opened r h (a ∙ ap (admit_of s.builder (length s.verbs) (length s.floats)) e)
 
   pub opened-admitted : (n : Need) (r : Built) (x : Builder) → n ≡ need_of (elements_of opened) → r ≡ admit_of s.builder (length s.verbs) (length s.floats) n → r ≡ Done x → AdmittedHere

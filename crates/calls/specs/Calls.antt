@@ -5,7 +5,6 @@ use Rattle.geometry.specs.declared.Point.{Point}
 use Rattle.conic.specs.declared.Conic.{Conic}
 use Rattle.conic.specs.Conic.{lower_of}
 use Rattle.stream.specs.declared.Builder.{Builder}
-use Rattle.stream.specs.declared.Element.{Element}
 use Rattle.stream.specs.declared.Element.TheVariants.{Move, Line, Quad, Cubic, Close}
 use Rattle.stream.specs.declared.Need.{Need}
 use Rattle.stream.specs.Stream.{State, state, origin, is_empty, bad_record, has_room, bad_state, room_for, push_all}

@@ -1,9 +1,8 @@
 -- Document 01's example j, by computation. Assumes nothing.
 use mathlib.Core.Path.{◌≡◌, refl}
-use mathlib.Core.Bool.{Bool, true, false}
+use mathlib.Core.Bool.{true, false}
 use lib.Ieee.{Float, binary32, of_bits, add, sub, mul, div, neg, lt, le, eq, ne, round}
 use Rattle.ieee.specs.Basic.{abs_of, min_of}
-use Rattle.geometry.specs.declared.Point.{Point}
 use Rattle.geometry.specs.Point.{add_of, sub_of, div_of, shrink_of, abs_point}
 use Rattle.octant.specs.Binary32.{zero}
 use Rattle.octant.specs.Octant.{point, compute_octant_of}

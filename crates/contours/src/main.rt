@@ -8,6 +8,7 @@ mod lines;
 
 use calls::Built;
 use geometry::Point;
+use std::io;
 use stream::Builder;
 
 #[derive(Clone, Copy)]
@@ -16,108 +17,130 @@ enum Face {
     Lent,
 }
 
-fn refused(b: Builder, number: u8) -> Builder {
-    lines::write_number(number);
-    b
+fn refused(rt: &impl Print, b: Builder, number: u8) -> io::Result<Builder> {
+    lines::write_number(rt, number)?;
+    Ok(b)
 }
 
-fn answered(a: Built) -> Builder {
+fn answered(rt: &impl Print, a: Built) -> io::Result<Builder> {
     match a {
         Built::Done(b) => {
-            lines::write_counts(b);
-            b
+            lines::write_counts(rt, b)?;
+            Ok(b)
         }
-        Built::BadRecord(b) => refused(b, 1),
-        Built::NoRoom(b) => refused(b, 5),
+        Built::BadRecord(b) => refused(rt, b, 1),
+        Built::NoRoom(b) => refused(rt, b, 5),
     }
 }
 
-fn side(b: Builder, verbs: &mut [u8], points: &mut [f32], p: Point, q: Point) -> Builder {
-    let moved = answered(builder::move_to(b, verbs, points, p));
-    answered(builder::line_to(moved, verbs, points, q))
+fn side(
+    rt: &impl Print,
+    b: Builder,
+    verbs: &mut [u8],
+    points: &mut [f32],
+    p: Point,
+    q: Point,
+) -> io::Result<Builder> {
+    let moved = answered(rt, builder::move_to(b, verbs, points, p))?;
+    answered(rt, builder::line_to(moved, verbs, points, q))
 }
 
 fn by_value(
+    rt: &impl Print,
     b: Builder,
     verbs: &mut [u8],
     points: &mut [f32],
     p: Point,
     q: Point,
     r: Point,
-) -> Builder {
-    let second = side(b, verbs, points, p, q);
-    let third = answered(builder::line_to(second, verbs, points, r));
-    answered(builder::close(third, verbs, points))
+) -> io::Result<Builder> {
+    let second = side(rt, b, verbs, points, p, q)?;
+    let third = answered(rt, builder::line_to(second, verbs, points, r))?;
+    answered(rt, builder::close(third, verbs, points))
 }
 
 fn over_lent(
+    rt: &impl Print,
     b: Builder,
     verbs: &mut [u8],
     points: &mut [f32],
     p: Point,
     q: Point,
     r: Point,
-) -> Builder {
+) -> io::Result<Builder> {
     let d = triangle::triangle(b, verbs, points, p, q, r);
-    lines::write_number(d.moved);
-    lines::write_number(d.second);
-    lines::write_number(d.third);
-    lines::write_number(d.closed);
-    d.builder
+    lines::write_number(rt, d.moved)?;
+    lines::write_number(rt, d.second)?;
+    lines::write_number(rt, d.third)?;
+    lines::write_number(rt, d.closed)?;
+    Ok(d.builder)
 }
 
 // A triangle at x.
-fn draw_at(face: Face, b: Builder, verbs: &mut [u8], points: &mut [f32], x: f32) -> Builder {
+fn draw_at(
+    rt: &impl Print,
+    face: Face,
+    b: Builder,
+    verbs: &mut [u8],
+    points: &mut [f32],
+    x: f32,
+) -> io::Result<Builder> {
     let p = Point { x: x, y: 0.0 };
     let q = Point { x: x + 1.0, y: 0.5 };
     let r = Point { x: x, y: -1.25 };
     match face {
-        Face::ByValue => by_value(b, verbs, points, p, q, r),
-        Face::Lent => over_lent(b, verbs, points, p, q, r),
+        Face::ByValue => by_value(rt, b, verbs, points, p, q, r),
+        Face::Lent => over_lent(rt, b, verbs, points, p, q, r),
     }
 }
 
 // Four triangles, each to the right of the one before.
-fn draw(face: Face, b: Builder, verbs: &mut [u8], points: &mut [f32]) {
+fn draw(
+    rt: &impl Print,
+    face: Face,
+    b: Builder,
+    verbs: &mut [u8],
+    points: &mut [f32],
+) -> io::Result<()> {
     let mut held = b;
     let mut x = -1.75;
     let mut i = 0u8;
     while i < 4 {
-        held = draw_at(face, held, verbs, points, x);
+        held = draw_at(rt, face, held, verbs, points, x)?;
         x = x + 1.5;
         i += 1;
     }
-    lines::write_stream(held, verbs, points);
+    lines::write_stream(rt, held, verbs, points)
 }
 
 // One list of calls, from this record, in buffers of v verbs and f floats.
-fn list(face: Face, b: Builder, v: usize, f: usize) {
+fn list(rt: &impl Print, face: Face, b: Builder, v: usize, f: usize) -> io::Result<()> {
     let mut verbs = [0u8; 16];
     let mut points = [0.0f32; 32];
     if v > 16 {
-        return;
+        return Ok(());
     }
     if f > 32 {
-        return;
+        return Ok(());
     }
-    draw(face, b, &mut verbs[0..v], &mut points[0..f]);
+    draw(rt, face, b, &mut verbs[0..v], &mut points[0..f])
 }
 
 // Enough room, too little, none, and a record that does not suit its buffers.
-fn lists(face: Face) {
-    list(face, stream::new(), 16, 32);
-    list(face, stream::new(), 6, 9);
-    list(face, stream::new(), 0, 0);
+fn lists(rt: &impl Print, face: Face) -> io::Result<()> {
+    list(rt, face, stream::new(), 16, 32)?;
+    list(rt, face, stream::new(), 6, 9)?;
+    list(rt, face, stream::new(), 0, 0)?;
     let unsuited = Builder {
         verbs: 9,
         points: 9,
         start: Point { x: 0.5, y: 0.25 },
         pen: Point { x: 1.5, y: 2.5 },
     };
-    list(face, unsuited, 8, 16);
+    list(rt, face, unsuited, 8, 16)
 }
 
-fn main() {
-    lists(Face::ByValue);
-    lists(Face::Lent);
+fn main(rt: HostRuntime) -> io::Result<()> {
+    lists(&rt, Face::ByValue)?;
+    lists(&rt, Face::Lent)
 }

@@ -4,15 +4,14 @@
 #![tactic(auto)]
 
 use input::Input;
-use libc::{STDERR_FILENO, STDOUT_FILENO};
+use std::io;
 
-fn main() {
+fn main(rt: HostRuntime) -> io::Result<()> {
     let mut file = [0u8; 65537];
-    let Input::Whole(n) = input::read_all(&mut file) else {
-        io::write_all(STDERR_FILENO, b"fascia: standard input cannot be read\n");
-        return;
+    let Input::Whole(n) = input::read_all(&mut rt.stdin(), &mut file) else {
+        return eprintln!(rt; "fascia: standard input cannot be read");
     };
     let mut out = [0u8; 393288];
     let length = report::report(&file[..n], &mut out);
-    io::write_all(STDOUT_FILENO, &out[..length]);
+    rt.write_all(&out[..length])
 }

@@ -3,7 +3,10 @@
 
 #![tactic(auto)]
 
-use libc::{STDIN_FILENO, STDOUT_FILENO};
+ghost use Rattle.io.specs.Counts.{IsPrefixLen};
+
+use std::io;
+use std::io::Read;
 use text::{Class, Number};
 
 // How many bytes the file has so far, or that the line is bad.
@@ -73,10 +76,10 @@ fn put_copies(file: &mut [u8], held: usize, part: &[u8], times: u64) -> usize {
     at
 }
 
-fn write_report(file: &[u8]) {
+fn write_report(rt: &impl Print, file: &[u8]) -> io::Result<()> {
     let mut out = [0u8; 393288];
     let n = report::report(file, &mut out);
-    io::write_all(STDOUT_FILENO, &out[..n]);
+    rt.write_all(&out[..n])
 }
 
 // A line that adds bytes to the file: how often, then the fields.
@@ -94,38 +97,54 @@ fn add(file: &mut [u8], held: usize, line: &[u8]) -> Held {
     Held::Bytes(put_copies(file, held, &part[0..n], times))
 }
 
-fn take_line(file: &mut [u8], held: usize, line: &[u8]) -> Held {
+fn take_line(rt: &impl Print, file: &mut [u8], held: usize, line: &[u8]) -> io::Result<Held> {
     let word = text::first_word(line);
     if word.len() == 0 {
-        return Held::Bytes(held);
+        return Ok(Held::Bytes(held));
     }
     if check::same(word, b"report") {
         if held <= file.len() {
-            write_report(&file[0..held]);
+            write_report(rt, &file[0..held])?;
         }
-        return Held::Bytes(0);
+        return Ok(Held::Bytes(0));
     }
-    add(file, held, line)
+    Ok(add(file, held, line))
 }
 
-fn take_lines(file: &mut [u8], lines: &[u8]) {
+fn take_lines(rt: &impl Print, file: &mut [u8], lines: &[u8]) -> io::Result<()> {
     let mut held = 0;
     let mut at = 0;
     while at < lines.len() {
         let rest = &lines[at..];
         let n = text::leading(rest, Class::Line);
-        let Held::Bytes(next) = take_line(file, held, &rest[0..n]) else {
-            io::write_all(STDOUT_FILENO, b"bad\n");
-            return;
+        let Held::Bytes(next) = take_line(rt, file, held, &rest[0..n])? else {
+            return rt.write_all(b"bad\n");
         };
         held = next;
         at = at + n + 1;
     }
+    Ok(())
 }
 
-fn main() {
+// Reads until buf is full, the input ends or a read fails, and returns how many bytes it put at the
+// start of buf.
+fn read_full<R: Read>(input: &mut R, buf: &mut [u8]) -> usize
+    ensures { IsPrefixLen result buf.new }
+{
+    let mut done = 0;
+    while done < buf.len() {
+        let n = input.read(&mut buf[done..]).unwrap_or(0);
+        if n == 0 {
+            break;
+        }
+        done += n;
+    }
+    done
+}
+
+fn main(rt: HostRuntime) -> io::Result<()> {
     let mut lines = [0u8; 131072];
-    let n = io::read_full(STDIN_FILENO, &mut lines);
+    let n = read_full(&mut rt.stdin(), &mut lines);
     let mut file = [0u8; 131072];
-    take_lines(&mut file, &lines[..n]);
+    take_lines(&rt, &mut file, &lines[..n])
 }

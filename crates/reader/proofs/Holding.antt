@@ -1,26 +1,25 @@
 -- A state that holds a list of elements: they are pushed behind each other, and reading gives them back.
 use mathlib.Core.Path.{◌≡◌, refl, sym, ap, ap₂, subst, ◌∙◌}
 use mathlib.Core.List.{List, [], ◌∷◌, ◌++◌, append_assoc, append-nil}
-use mathlib.Core.Bool.{Bool, true, false, ◌&&◌, ◌||◌}
-use Prim.Native.Nat.{ℕ, zero, suc, ◌+◌, ◌-◌, ◌*◌, ◌/◌, ◌≤◌, ◌<◌}
+use mathlib.Core.Bool.{false, ◌&&◌}
+use Prim.Native.Nat.{ℕ, zero, suc, ◌+◌, ◌*◌, ◌/◌, ◌≤◌, ◌<◌}
 use native.Mathlib.Omega.{arith}
 use lib.ListN.{length, take, get_or, length-append, get_or-append}
 use lib.Seq.{get_or-take, get_or-append-add, get_or_at}
-use lib.Dec.{leb, ltb, eqb, lit≤}
+use lib.Dec.{ltb, eqb, lit≤}
 use lib.Ieee.{Float, nan}
 use borrow.Author.Tests.{le-ltb, ne_eqb}
 use Rattle.geometry.specs.declared.Point.{Point}
-use Rattle.stream.specs.declared.Builder.{Builder}
 use Rattle.stream.specs.declared.Element.{Element}
 use Rattle.stream.specs.declared.Element.TheVariants.{Move, Line, Quad, Cubic, Close}
-use Rattle.stream.specs.Stream.{put, verb_of, points_of, floats_of, bytes_of, all_floats, size_of, sizes_of, point_count, bad_record, advance_of, State, state, push, push_all, bad_state, Fits}
+use Rattle.stream.specs.Stream.{verb_of, floats_of, bytes_of, all_floats, size_of, sizes_of, point_count, bad_record, advance_of, State, push, push_all, bad_state}
 use Rattle.stream.proofs.Put.{length-put, take-grown}
 use Rattle.stream.proofs.Past.{length-floats}
 use Rattle.stream.proofs.Lists.{bytes_append, floats_append, length-bytes, length_all, bytes_one, floats-one}
 use Rattle.stream.proofs.Push.{count_verb_lem, sizes_cons, sizes-one, sizes_append}
 use Rattle.reader.specs.declared.Cursor.{Cursor}
-use Rattle.reader.specs.Reading.{Answer, ok, refused, Item, item, end, cursor, point_at, element_at, read_at, prepend, follow, read_from, read_all, Reads, ends, more}
-use Rattle.reader.proofs.Reader.{byte_at, read_past, read_found, read-from}
+use Rattle.reader.specs.Reading.{Answer, ok, Item, item, cursor, point_at, element_at, read_at, prepend, follow, read_from, Reads, ends, more}
+use Rattle.reader.proofs.Reader.{read_past, read_found, read-from}
 
 -- ---- the counts are those of ks, and the first places hold them
 
@@ -80,7 +79,7 @@ holding_all {s} {ks} (j ∷ js) h hv hf =
     let lv = length-append ks (j ∷ []) in
     let lf = sizes_append ks (j ∷ []) in
     let g = holding_push j h (omega arith) (omega (arith, sizes_cons j js)) in
-    let r = holding_all js g.holding (omega (arith, g.lengths.verbs)) (omega (arith, g.lengths.floats, sizes_cons j js, sizes-one j)) in
+    let r = holding_all {s = push s j} {ks = ks ++ j ∷ []} js g.holding (omega (arith, g.lengths.verbs)) (omega (arith, g.lengths.floats, sizes_cons j js, sizes-one j)) in
     record {
       lengths = record { verbs = r.lengths.verbs ∙ g.lengths.verbs; floats = r.lengths.floats ∙ g.lengths.floats };
       holding = subst (λ (x : List Element). Holding (push_all (push s j) js) x) e r.holding;

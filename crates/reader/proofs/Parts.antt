@@ -9,7 +9,6 @@ use native.Mathlib.Omega.{arith}
 use lib.ListN.{length, get_or, take, drop}
 use lib.Seq.{take-nil, slice, slice_empty, slice-cons}
 use lib.Ieee.{Float, nan}
-use Rattle.geometry.specs.declared.Point.{Point}
 use Rattle.stream.specs.declared.Element.{Element}
 use Rattle.stream.specs.declared.Element.TheVariants.{Move, Line, Quad, Cubic, Close}
 use Rattle.stream.specs.Stream.{State, floats_of, point_count, bad_state}
@@ -17,7 +16,7 @@ use Rattle.stream.proofs.Tests.{good_record}
 use Rattle.reader.specs.declared.Cursor.{Cursor}
 use Rattle.reader.specs.declared.Segment.{Segment}
 use Rattle.reader.specs.declared.Segment.TheVariants as segment
-use Rattle.reader.specs.Reading.{Answer, ok, refused, Item, item, end, item_of, segment_of, point_at, element_at, read_at, part_of, part_at, floats_from, floats_at}
+use Rattle.reader.specs.Reading.{Answer, ok, Item, item, end, item_of, segment_of, point_at, element_at, read_at, part_of, part_at, floats_from, floats_at}
 use Rattle.reader.proofs.Reader.{View, bad, past, malformed, found, view, byte_at}
 use Rattle.reader.specs.declared.Extent.{Extent}
 use Rattle.reader.specs.Bounds.{include_element, include_segment}

@@ -1,13 +1,11 @@
 -- The least box round the points of all segments, controls included: points not finite are passed over, and of equal values the earlier stays.
 -- Definitions only.
-use Rattle.std.specs.Prelude.{List, [], ◌∷◌, Bool, cond, Float}
+use Rattle.std.specs.Prelude.{List, [], ◌∷◌, cond}
 use Rattle.ieee.specs.Basic.{min_of, max_of}
 use Rattle.geometry.specs.declared.Point.{Point}
 use Rattle.geometry.specs.Point.{finite_point}
 use Rattle.stream.specs.declared.Element.{Element}
 use Rattle.reader.specs.declared.Segment.{Segment}
-use Rattle.reader.specs.declared.Segment.TheVariants as segment
-use Rattle.reader.specs.declared.Rect.{Rect}
 use Rattle.reader.specs.declared.Extent.{Extent}
 use Rattle.reader.specs.declared.Extent.TheVariants.{Empty, Box}
 use Rattle.reader.specs.declared.Bounded.{Bounded}

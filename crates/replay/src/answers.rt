@@ -1,20 +1,21 @@
 // The replies to what a line asks.
 use calls::ConicBuilt;
 use geometry::Point;
-use libc::STDOUT_FILENO;
 use outline::BuildingCall;
 use reader::{Bounded, Extent, Reading};
 use replies::Reply;
 use shape::Answer;
+use std::io;
 use stream::Builder;
 
 // No reply is longer than the buffer.
-pub fn write(reply: Reply) {
+pub fn write(rt: &impl Print, reply: Reply) -> io::Result<()> {
     let mut out = [0u8; 128];
     let n = replies::put(&mut out, reply);
     if n <= 128 {
-        io::write_all(STDOUT_FILENO, &out[0..n]);
+        rt.write_all(&out[0..n])?;
     }
+    Ok(())
 }
 
 fn of_reading(r: Reading) -> Reply {
@@ -25,8 +26,8 @@ fn of_reading(r: Reading) -> Reply {
     }
 }
 
-pub fn write_reading(r: Reading) {
-    write(of_reading(r));
+pub fn write_reading(rt: &impl Print, r: Reading) -> io::Result<()> {
+    write(rt, of_reading(r))
 }
 
 fn of_extent(e: Extent) -> Reply {
@@ -44,8 +45,8 @@ fn of_bounded(b: Bounded) -> Reply {
     }
 }
 
-pub fn write_bounded(b: Bounded) {
-    write(of_bounded(b));
+pub fn write_bounded(rt: &impl Print, b: Bounded) -> io::Result<()> {
+    write(rt, of_bounded(b))
 }
 
 // Only a conic's reply has a joint word.
@@ -57,42 +58,40 @@ fn of_done(call: BuildingCall, b: Builder, word: u64) -> Reply {
 }
 
 // The answer of a call, and the record that it gives back.
-pub fn write_built(call: BuildingCall, a: ConicBuilt) -> Builder {
+pub fn write_built(rt: &impl Print, call: BuildingCall, a: ConicBuilt) -> io::Result<Builder> {
     match a {
         ConicBuilt::Done(b, word) => {
-            write(of_done(call, b, word));
-            b
+            write(rt, of_done(call, b, word))?;
+            Ok(b)
         }
         ConicBuilt::BadRecord(b) => {
-            write(Reply::Refused(1));
-            b
+            write(rt, Reply::Refused(1))?;
+            Ok(b)
         }
         ConicBuilt::NoRoom(b) => {
-            write(Reply::Refused(5));
-            b
+            write(rt, Reply::Refused(5))?;
+            Ok(b)
         }
     }
 }
 
 // Why there is no shape.
-pub fn write_no_shape(a: Answer) {
+pub fn write_no_shape(rt: &impl Print, a: Answer) -> io::Result<()> {
     match a {
-        Answer::Made(_) => {}
-        Answer::BeyondLimit => write(Reply::Refused(2)),
-        Answer::NegativeRadius => write(Reply::Refused(3)),
-        Answer::Inverted => write(Reply::Refused(4)),
+        Answer::Made(_) => Ok(()),
+        Answer::BeyondLimit => write(rt, Reply::Refused(2)),
+        Answer::NegativeRadius => write(rt, Reply::Refused(3)),
+        Answer::Inverted => write(rt, Reply::Refused(4)),
     }
 }
 
 // Whether the shape contains the point, or why there is no shape.
-pub fn write_contains(a: Answer, p: Point) {
+pub fn write_contains(rt: &impl Print, a: Answer, p: Point) -> io::Result<()> {
     let Answer::Made(s) = a else {
-        write_no_shape(a);
-        return;
+        return write_no_shape(rt, a);
     };
     if containment::contains(s, p) {
-        write(Reply::Yes);
-        return;
+        return write(rt, Reply::Yes);
     }
-    write(Reply::No);
+    write(rt, Reply::No)
 }

@@ -6,6 +6,7 @@ use outline::BuildingCall;
 use reader::{Cursor, Reading, Segment};
 use replies::Reply;
 use shape::{Answer, RoundSuperellipse};
+use std::io;
 use stream::Builder;
 
 // What is current. The buffers of a raw stream grow until it is asked something.
@@ -49,11 +50,11 @@ fn next_line(s: Session) -> Session {
     s
 }
 
-fn bad_line(s: Session) -> Session {
+fn bad_line(rt: &impl Print, s: Session) -> io::Result<Session> {
     let mut s = s;
-    answers::write(Reply::BadLine(s.line));
+    answers::write(rt, Reply::BadLine(s.line))?;
     s.stopped = true;
-    s
+    Ok(s)
 }
 
 fn is_end(s: Segment) -> bool {
@@ -62,39 +63,40 @@ fn is_end(s: Segment) -> bool {
 
 // The segments from cursor (0, 0), and whether the stream ends behind them. A good record holds no
 // more verbs than are lent.
-fn write_segments(b: Builder, verbs: &[u8], floats: &[f32]) -> bool {
+fn write_segments(rt: &impl Print, b: Builder, verbs: &[u8], floats: &[f32]) -> io::Result<bool> {
     let mut c = Cursor { verb: 0, point: 0 };
     let mut i = 0;
     while i <= verbs.len() {
         let r = reader::read(b, verbs, floats, c);
         let Reading::Item(segment, next) = r else {
-            answers::write_reading(r);
-            return false;
+            answers::write_reading(rt, r)?;
+            return Ok(false);
         };
         if is_end(segment) {
-            return true;
+            return Ok(true);
         }
-        answers::write(Reply::Element(segment));
+        answers::write(rt, Reply::Element(segment))?;
         c = next;
         i += 1;
     }
-    true
+    Ok(true)
 }
 
 // What a list holds at its end: its record.
-fn write_end(s: Session) {
+fn write_end(rt: &impl Print, s: Session) -> io::Result<()> {
     let kind = s.kind;
     let b = s.builder;
     if let Kind::List = kind {
-        answers::write(Reply::Record(b));
+        answers::write(rt, Reply::Record(b))?;
     }
-    answers::write(Reply::End);
+    answers::write(rt, Reply::End)
 }
 
-fn write_stream(s: Session, verbs: &[u8], floats: &[f32]) {
-    if write_segments(s.builder, verbs, floats) {
-        write_end(s);
+fn write_stream(rt: &impl Print, s: Session, verbs: &[u8], floats: &[f32]) -> io::Result<()> {
+    if write_segments(rt, s.builder, verbs, floats)? {
+        write_end(rt, s)?;
     }
+    Ok(())
 }
 
 // What may be asked of a list or a raw stream.
@@ -105,34 +107,40 @@ enum Question {
     Box,
 }
 
-fn answer(s: Session, q: Question, verbs: &[u8], floats: &[f32]) {
+fn answer(
+    rt: &impl Print,
+    s: Session,
+    q: Question,
+    verbs: &[u8],
+    floats: &[f32],
+) -> io::Result<()> {
     match q {
-        Question::All => write_stream(s, verbs, floats),
-        Question::At(c) => answers::write_reading(reader::read(s.builder, verbs, floats, c)),
-        Question::Box => answers::write_bounded(reader::bounds(s.builder, verbs, floats)),
+        Question::All => write_stream(rt, s, verbs, floats),
+        Question::At(c) => answers::write_reading(rt, reader::read(s.builder, verbs, floats, c)),
+        Question::Box => answers::write_bounded(rt, reader::bounds(s.builder, verbs, floats)),
     }
 }
 
 // The question to the part of the buffers that is lent.
-fn ask(s: Session, q: Question, verbs: &[u8], floats: &[f32]) {
+fn ask(rt: &impl Print, s: Session, q: Question, verbs: &[u8], floats: &[f32]) -> io::Result<()> {
     let v = s.verbs;
     let f = s.floats;
     if v > verbs.len() {
-        return;
+        return Ok(());
     }
     if f > floats.len() {
-        return;
+        return Ok(());
     }
-    answer(s, q, &verbs[0..v], &floats[0..f]);
+    answer(rt, s, q, &verbs[0..v], &floats[0..f])
 }
 
 // The end of the current list or raw stream.
-pub fn end_stream(s: Session, verbs: &[u8], floats: &[f32]) {
+pub fn end_stream(rt: &impl Print, s: Session, verbs: &[u8], floats: &[f32]) -> io::Result<()> {
     let kind = s.kind;
     if let Kind::Nothing = kind {
-        return;
+        return Ok(());
     }
-    ask(s, Question::All, verbs, floats);
+    ask(rt, s, Question::All, verbs, floats)
 }
 
 fn clear_verbs(verbs: &mut [u8]) {
@@ -163,28 +171,42 @@ fn replaced(s: Session, kind: Kind, builder: Builder, verbs: usize, floats: usiz
     }
 }
 
-fn begin_list(s: Session, v: usize, f: usize, verbs: &mut [u8], floats: &mut [f32]) -> Session {
+fn begin_list(
+    rt: &impl Print,
+    s: Session,
+    v: usize,
+    f: usize,
+    verbs: &mut [u8],
+    floats: &mut [f32],
+) -> io::Result<Session> {
     if v > verbs.len() {
-        return bad_line(s);
+        return bad_line(rt, s);
     }
     if f > floats.len() {
-        return bad_line(s);
+        return bad_line(rt, s);
     }
-    end_stream(s, verbs, floats);
+    end_stream(rt, s, verbs, floats)?;
     clear_verbs(verbs);
     clear_floats(floats);
-    replaced(s, Kind::List, stream::new(), v, f)
+    Ok(replaced(s, Kind::List, stream::new(), v, f))
 }
 
-fn begin_raw(s: Session, v: usize, p: usize, verbs: &[u8], floats: &[f32]) -> Session {
-    end_stream(s, verbs, floats);
+fn begin_raw(
+    rt: &impl Print,
+    s: Session,
+    v: usize,
+    p: usize,
+    verbs: &[u8],
+    floats: &[f32],
+) -> io::Result<Session> {
+    end_stream(rt, s, verbs, floats)?;
     let b = Builder {
         verbs: v,
         points: p,
         start: Point { x: 0.0, y: 0.0 },
         pen: Point { x: 0.0, y: 0.0 },
     };
-    replaced(s, Kind::Raw, b, 0, 0)
+    Ok(replaced(s, Kind::Raw, b, 0, 0))
 }
 
 fn set_builder(s: Session, b: Builder) -> Session {
@@ -193,75 +215,92 @@ fn set_builder(s: Session, b: Builder) -> Session {
     s
 }
 
-fn refuse_shape(s: Session, a: Answer) -> Session {
+fn refuse_shape(rt: &impl Print, s: Session, a: Answer) -> io::Result<Session> {
     let kind = s.kind;
     let Kind::List = kind else {
-        return bad_line(s);
+        return bad_line(rt, s);
     };
-    answers::write_no_shape(a);
-    s
+    answers::write_no_shape(rt, a)?;
+    Ok(s)
 }
 
 // One call of the library, whichever it is.
-fn build(s: Session, call: BuildingCall, verbs: &mut [u8], floats: &mut [f32]) -> Session {
+fn build(
+    rt: &impl Print,
+    s: Session,
+    call: BuildingCall,
+    verbs: &mut [u8],
+    floats: &mut [f32],
+) -> io::Result<Session> {
     let kind = s.kind;
     let Kind::List = kind else {
-        return bad_line(s);
+        return bad_line(rt, s);
     };
     let v = s.verbs;
     let f = s.floats;
     if v > verbs.len() {
-        return s;
+        return Ok(s);
     }
     if f > floats.len() {
-        return s;
+        return Ok(s);
     }
     let a = building::apply(s.builder, &mut verbs[0..v], &mut floats[0..f], call);
-    set_builder(s, answers::write_built(call, a))
+    Ok(set_builder(s, answers::write_built(rt, call, a)?))
 }
 
 // The outline of a shape, or why there is no shape.
-fn build_outline(s: Session, a: Answer, verbs: &mut [u8], floats: &mut [f32]) -> Session {
+fn build_outline(
+    rt: &impl Print,
+    s: Session,
+    a: Answer,
+    verbs: &mut [u8],
+    floats: &mut [f32],
+) -> io::Result<Session> {
     let Answer::Made(shape) = a else {
-        return refuse_shape(s, a);
+        return refuse_shape(rt, s, a);
     };
-    build(s, BuildingCall::AddTo(shape), verbs, floats)
+    build(rt, s, BuildingCall::AddTo(shape), verbs, floats)
 }
 
-fn set_record(s: Session, b: Builder) -> Session {
+fn set_record(rt: &impl Print, s: Session, b: Builder) -> io::Result<Session> {
     let kind = s.kind;
     let Kind::List = kind else {
-        return bad_line(s);
+        return bad_line(rt, s);
     };
-    set_builder(s, b)
+    Ok(set_builder(s, b))
 }
 
-fn grow_verbs(s: Session, line: &[u8], verbs: &mut [u8]) -> Session {
+fn grow_verbs(rt: &impl Print, s: Session, line: &[u8], verbs: &mut [u8]) -> io::Result<Session> {
     let kind = s.kind;
     let Kind::Raw = kind else {
-        return bad_line(s);
+        return bad_line(rt, s);
     };
     let held = operands::push_verbs(line, verbs, s.verbs);
     if held > verbs.len() {
-        return bad_line(s);
+        return bad_line(rt, s);
     }
     let mut s = s;
     s.verbs = held;
-    s
+    Ok(s)
 }
 
-fn grow_floats(s: Session, line: &[u8], floats: &mut [f32]) -> Session {
+fn grow_floats(
+    rt: &impl Print,
+    s: Session,
+    line: &[u8],
+    floats: &mut [f32],
+) -> io::Result<Session> {
     let kind = s.kind;
     let Kind::Raw = kind else {
-        return bad_line(s);
+        return bad_line(rt, s);
     };
     let held = operands::push_floats(line, floats, s.floats);
     if held > floats.len() {
-        return bad_line(s);
+        return bad_line(rt, s);
     }
     let mut s = s;
     s.floats = held;
-    s
+    Ok(s)
 }
 
 // A raw stream that is asked something grows no more.
@@ -273,48 +312,61 @@ fn asked(s: Session) -> Session {
     replaced(s, Kind::Asked, s.builder, s.verbs, s.floats)
 }
 
-fn put_question(s: Session, q: Question, verbs: &[u8], floats: &[f32]) -> Session {
+fn put_question(
+    rt: &impl Print,
+    s: Session,
+    q: Question,
+    verbs: &[u8],
+    floats: &[f32],
+) -> io::Result<Session> {
     let kind = s.kind;
     if let Kind::Nothing = kind {
-        return bad_line(s);
+        return bad_line(rt, s);
     }
-    ask(s, q, verbs, floats);
-    asked(s)
+    ask(rt, s, q, verbs, floats)?;
+    Ok(asked(s))
 }
 
-fn take_item(s: Session, line: &[u8], verbs: &mut [u8], floats: &mut [f32]) -> Session {
+fn take_item(
+    rt: &impl Print,
+    s: Session,
+    line: &[u8],
+    verbs: &mut [u8],
+    floats: &mut [f32],
+) -> io::Result<Session> {
     match items::item_of(line) {
-        Item::Nothing => s,
-        Item::Bad => bad_line(s),
-        Item::Buffers(v, f) => begin_list(s, v, f, verbs, floats),
-        Item::Build(call) => build(s, call, verbs, floats),
+        Item::Nothing => Ok(s),
+        Item::Bad => bad_line(rt, s),
+        Item::Buffers(v, f) => begin_list(rt, s, v, f, verbs, floats),
+        Item::Build(call) => build(rt, s, call, verbs, floats),
         Item::Outline(bounds, radii) => {
-            build_outline(s, RoundSuperellipse::new(bounds, radii), verbs, floats)
+            build_outline(rt, s, RoundSuperellipse::new(bounds, radii), verbs, floats)
         }
-        Item::Record(b) => set_record(s, b),
-        Item::Raw(v, p) => begin_raw(s, v, p, verbs, floats),
-        Item::Verbs => grow_verbs(s, text::after_word(line), verbs),
-        Item::Floats => grow_floats(s, text::after_word(line), floats),
-        Item::At(c) => put_question(s, Question::At(c), verbs, floats),
-        Item::Box => put_question(s, Question::Box, verbs, floats),
+        Item::Record(b) => set_record(rt, s, b),
+        Item::Raw(v, p) => begin_raw(rt, s, v, p, verbs, floats),
+        Item::Verbs => grow_verbs(rt, s, text::after_word(line), verbs),
+        Item::Floats => grow_floats(rt, s, text::after_word(line), floats),
+        Item::At(c) => put_question(rt, s, Question::At(c), verbs, floats),
+        Item::Box => put_question(rt, s, Question::Box, verbs, floats),
         Item::Contains(bounds, radii, p) => {
-            answers::write_contains(RoundSuperellipse::new(bounds, radii), p);
-            s
+            answers::write_contains(rt, RoundSuperellipse::new(bounds, radii), p)?;
+            Ok(s)
         }
     }
 }
 
 // One line, of which `held` bytes are held, one more than there is room for where it is too long.
 pub fn take_line(
+    rt: &impl Print,
     s: Session,
     line: &[u8],
     held: usize,
     verbs: &mut [u8],
     floats: &mut [f32],
-) -> Session {
+) -> io::Result<Session> {
     let s = next_line(s);
     if held > line.len() {
-        return bad_line(s);
+        return bad_line(rt, s);
     }
-    take_item(s, &line[0..held], verbs, floats)
+    take_item(rt, s, &line[0..held], verbs, floats)
 }

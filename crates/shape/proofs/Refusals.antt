@@ -1,10 +1,10 @@
 -- When making a shape is refused, and with which number. Assumes nothing.
-use mathlib.Core.Path.{◌≡◌, refl, ap, sym, ◌∙◌}
+use mathlib.Core.Path.{◌≡◌, refl, ap}
 use mathlib.Core.Logic.{◌↔◌}
 use mathlib.Core.Bool.{Bool, true, false, cond, ◌||◌}
 use Prim.Native.Nat.{ℕ}
 use native.Mathlib.Omega.{arith}
-use lib.Ieee.{Float, nan, inf, binary32, of_bits, neg, lt}
+use lib.Ieee.{nan, inf, binary32, of_bits, neg, lt}
 use Rattle.ieee.specs.Basic.{abs_of}
 use Rattle.octant.specs.Binary32.{zero}
 use Rattle.shape.specs.Shape.{shape_of}

@@ -8,8 +8,9 @@
 
 mod fields;
 
-use libc::STDOUT_FILENO;
 use shape::{Answer, RoundSuperellipse};
+use std::io;
+use std::io::Read;
 
 fn put_answer(out: &mut [u8], a: Answer) -> usize {
     match a {
@@ -20,64 +21,69 @@ fn put_answer(out: &mut [u8], a: Answer) -> usize {
     }
 }
 
-fn write_line(out: &mut [u8], n: usize) {
+fn write_line(rt: &impl Print, out: &mut [u8], n: usize) -> io::Result<()> {
     let n = text::put(out, n, b"\n");
     if n <= out.len() {
-        io::write_all(STDOUT_FILENO, &out[0..n]);
+        rt.write_all(&out[0..n])?;
     }
+    Ok(())
 }
 
-fn write_bad() {
+fn write_bad(rt: &impl Print) -> io::Result<()> {
     let mut out = [0u8; 8];
     let n = text::put(&mut out, 0, b"bad");
-    write_line(&mut out, n);
+    write_line(rt, &mut out, n)
 }
 
-fn answer(line: &[u8]) {
+fn answer(rt: &impl Print, line: &[u8]) -> io::Result<()> {
     let o = operands::read(line);
     let count = o.count;
     let x = o.x;
     if count == 0 {
-        return;
+        return Ok(());
     }
     if count != 12 {
-        write_bad();
-        return;
+        return write_bad(rt);
     }
     let mut out = [0u8; 1024];
     let n = put_answer(
         &mut out,
         RoundSuperellipse::new(operands::bounds(x), operands::radii(x)),
     );
-    write_line(&mut out, n);
+    write_line(rt, &mut out, n)
 }
 
 // One line, of which `held` bytes are held, one more than there is room for where it is too long.
-fn finish(line: &[u8], held: usize) {
+fn finish(rt: &impl Print, line: &[u8], held: usize) -> io::Result<()> {
     if held > line.len() {
-        write_bad();
-        return;
+        return write_bad(rt);
     }
-    answer(&line[0..held]);
+    answer(rt, &line[0..held])
 }
 
 // A proved loop has to end, and nothing says that the input does: the turns are counted down from
 // a number that no run uses up.
-fn answer_all(piece: &mut [u8], line: &mut [u8]) {
+fn answer_all<R: Read>(
+    rt: &impl Print,
+    input: &mut R,
+    piece: &mut [u8],
+    line: &mut [u8],
+) -> io::Result<()> {
     let mut r = lines::new();
     let mut turns = u64::MAX;
     while turns > 0 {
-        r = lines::next(r, piece, line);
-        finish(line, r.held);
+        r = lines::next(input, r, piece, line);
+        finish(rt, line, r.held)?;
         if r.ended {
-            return;
+            return Ok(());
         }
         turns -= 1;
     }
+    Ok(())
 }
 
-fn main() {
-    let mut piece = io::large_buffer();
+fn main(rt: HostRuntime) -> io::Result<()> {
+    let mut piece = [0u8; 65536];
     let mut line = [0u8; 1024];
-    answer_all(&mut piece, &mut line);
+    answer_all(&rt, &mut rt.stdin(), &mut piece, &mut line)
 }

@@ -8,7 +8,8 @@
 mod functions;
 
 use functions::Answer;
-use libc::STDOUT_FILENO;
+use std::io;
+use std::io::Read;
 
 fn pair_text(x: f32, y: f32, out: &mut [u8]) -> usize {
     let n = text::put_single(out, 0, x);
@@ -31,44 +32,54 @@ fn answer_text(a: Answer, out: &mut [u8]) -> usize {
     }
 }
 
-fn write_answer(a: Answer) {
+fn write_answer(rt: &impl Print, a: Answer) -> io::Result<()> {
     let mut out = [0u8; 64];
     let n = answer_text(a, &mut out);
     let n = text::put(&mut out, n, b"\n");
     if n <= 64 {
-        io::write_all(STDOUT_FILENO, &out[0..n]);
+        rt.write_all(&out[0..n])?;
     }
+    Ok(())
 }
 
 // One line, of which `held` bytes are held, one more than there is room for where it is too long.
-fn finish(line: &[u8], held: usize) {
+fn finish(rt: &impl Print, line: &[u8], held: usize) -> io::Result<()> {
     if held > line.len() {
-        write_answer(Answer::Bad);
-        return;
+        return write_answer(rt, Answer::Bad);
     }
     let name = text::first_word(&line[0..held]);
     if name.len() > 0 {
-        write_answer(functions::answer_to(name, text::after_word(&line[0..held])));
+        write_answer(
+            rt,
+            functions::answer_to(name, text::after_word(&line[0..held])),
+        )?;
     }
+    Ok(())
 }
 
 // A proved loop has to end, and nothing says that the input does: the turns are counted down from
 // a number that no run uses up.
-fn answer_all(piece: &mut [u8], line: &mut [u8]) {
+fn answer_all<R: Read>(
+    rt: &impl Print,
+    input: &mut R,
+    piece: &mut [u8],
+    line: &mut [u8],
+) -> io::Result<()> {
     let mut r = lines::new();
     let mut turns = u64::MAX;
     while turns > 0 {
-        r = lines::next(r, piece, line);
-        finish(line, r.held);
+        r = lines::next(input, r, piece, line);
+        finish(rt, line, r.held)?;
         if r.ended {
-            return;
+            return Ok(());
         }
         turns -= 1;
     }
+    Ok(())
 }
 
-fn main() {
-    let mut piece = io::large_buffer();
+fn main(rt: HostRuntime) -> io::Result<()> {
+    let mut piece = [0u8; 65536];
     let mut line = [0u8; 1024];
-    answer_all(&mut piece, &mut line);
+    answer_all(&rt, &mut rt.stdin(), &mut piece, &mut line)
 }

@@ -3,7 +3,7 @@ use Rattle.reader.proofs.Reader.{read-bad, read_past, read-high, read_short, rea
 use Rattle.reader.specs.Reading.{ok, cursor, item_of}
 use Rattle.reader.specs.declared.Segment.{Segment}
 use Rattle.stream.proofs.Tests.{good_record}
-use Rattle.stream.specs.Stream.{state, point_count}
+use Rattle.stream.specs.Stream.{state}
 use lib.ListN.{length}
 use native.Mathlib.Omega.{arith}
 use Prim.Native.Nat.{ℕ, ◌+◌}
@@ -13,33 +13,33 @@ use Rattle.reader.proofs.read.Goals as goal
 pub returns-then-bad_record : goal.returns-then-bad_record
 returns-then-bad_record c =
     let a = c.args in
-    read-bad (state a.b a.verbs.now a.points.now) a.c (sym c.before.bad_record_lem.ensures ∙ c.if-bad_record.true)
+    read-bad (state a.b a.verbs.now a.points.now) a.c (sym c.bad_record.ensures ∙ c.if-bad_record.true)
 
 pub returns-then-b-at : goal.returns-then-b-at
 returns-then-b-at c =
     let a = c.args in
-    read_past (state a.b a.verbs.now a.points.now) a.c (sym c.before.before.before.bad_record_lem.ensures ∙ c.if-bad_record.false) c.if-b-at.true
+    read_past (state a.b a.verbs.now a.points.now) a.c (sym c.bad_record.ensures ∙ c.if-bad_record.false) c.if-b-at.true
 
 pub bounds-verbs-at : goal.bounds-verbs-at
 bounds-verbs-at c =
     let a = c.args in
-    omega (arith, c.if-b-at.false, good_record a.b (length a.verbs.now) (length a.points.now) (sym c.before.before.before.before.bad_record_lem.ensures ∙ c.if-bad_record.false))
+    omega (arith, c.if-b-at.false, good_record a.b (length a.verbs.now) (length a.points.now) (sym c.bad_record.ensures ∙ c.if-bad_record.false))
 
 pub returns-then-v-gt4 : goal.returns-then-v-gt4
 returns-then-v-gt4 c =
     let a = c.args in
-    read-high (state a.b a.verbs.now a.points.now) a.c (sym c.before.before.before.before.before.bad_record_lem.ensures ∙ c.if-bad_record.false) c.if-b-at.false c.if-v-gt4.true
+    read-high (state a.b a.verbs.now a.points.now) a.c (sym c.bad_record.ensures ∙ c.if-bad_record.false) c.if-b-at.false c.if-v-gt4.true
 
 pub returns-then-points_left-k : goal.returns-then-points_left-k
 returns-then-points_left-k c =
     let a = c.args in
     let l = rw (c.points_left.ensures, c.point_count-k.ensures) at c.if-points_left-k.true in
-    read_short (state a.b a.verbs.now a.points.now) a.c (sym c.before.before.before.before.before.before.before.before.bad_record_lem.ensures ∙ c.if-bad_record.false) c.if-b-at.false c.if-v-gt4.false l
+    read_short (state a.b a.verbs.now a.points.now) a.c (sym c.bad_record.ensures ∙ c.if-bad_record.false) c.if-b-at.false c.if-v-gt4.false l
 
 pub segment_at-requires : goal.segment_at-requires
 segment_at-requires c =
     let a = c.args in
-    omega (arith, c.points_left.ensures, c.point_count-k.ensures, c.if-points_left-k.false, good_record a.b (length a.verbs.now) (length a.points.now) (sym c.before.before.before.before.before.before.before.before.bad_record_lem.ensures ∙ c.if-bad_record.false))
+    omega (arith, c.points_left.ensures, c.point_count-k.ensures, c.if-points_left-k.false, good_record a.b (length a.verbs.now) (length a.points.now) (sym c.bad_record.ensures ∙ c.if-bad_record.false))
 
 pub returns : goal.returns
 returns c =
@@ -47,4 +47,4 @@ returns c =
     let l = rw (c.points_left.ensures, c.point_count-k.ensures) at c.if-points_left-k.false in
     ap₂ (λ (x : Segment) (k : ℕ). ok (item_of x (cursor (a.c.verb + 1) (a.c.point + k)))) c.segment_at.ensures c.point_count-k.ensures
     ∙ ap ok (item-is _ _)
-    ∙ read_found (state a.b a.verbs.now a.points.now) a.c (sym c.before.before.before.before.before.before.before.before.before.bad_record_lem.ensures ∙ c.if-bad_record.false) c.if-b-at.false c.if-v-gt4.false l
+    ∙ read_found (state a.b a.verbs.now a.points.now) a.c (sym c.bad_record.ensures ∙ c.if-bad_record.false) c.if-b-at.false c.if-v-gt4.false l

@@ -7,59 +7,59 @@ use Rattle.reader.proofs.segment_at.Goals as goal
 
 pub point_at-requires : goal.point_at-requires
 unfolding point_count
-point_at-requires c = omega (arith, c.requires, ap point_count c.in_default.keys1)
+point_at-requires c = omega (arith, c.requires, ap point_count c.in-0.is)
 
 pub point_at-requires-in-1 : goal.point_at-requires-in-1
 unfolding point_count
-point_at-requires-in-1 c = omega (arith, c.requires, ap point_count c.in_default.keys2)
+point_at-requires-in-1 c = omega (arith, c.requires, ap point_count c.in-1.is)
 
 pub point_at-requires-in-2 : goal.point_at-requires-in-2
 unfolding point_count
-point_at-requires-in-2 c = omega (arith, c.requires, ap point_count c.in_default.keys3)
+point_at-requires-in-2 c = omega (arith, c.requires, ap point_count c.in-2.is)
 
 pub overflow_add-at : goal.overflow_add-at
 unfolding point_count
-overflow_add-at c = omega (arith, c.requires, ap point_count c.in_default.keys3)
+overflow_add-at c = omega (arith, c.requires, ap point_count c.in-2.is)
 
 pub point_at-requires-in-2-2 : goal.point_at-requires-in-2-2
 unfolding point_count
-point_at-requires-in-2-2 c = omega (arith, c.requires, ap point_count c.in_default.keys3)
+point_at-requires-in-2-2 c = omega (arith, c.requires, ap point_count c.in-2.is)
 
 pub point_at-requires-in-3 : goal.point_at-requires-in-3
 unfolding point_count
-point_at-requires-in-3 c = omega (arith, c.requires, ap point_count c.in_default.keys4)
+point_at-requires-in-3 c = omega (arith, c.requires, ap point_count c.in-3.is)
 
 pub overflow_add-at-in-3 : goal.overflow_add-at-in-3
 unfolding point_count
-overflow_add-at-in-3 c = omega (arith, c.requires, ap point_count c.in_default.keys4)
+overflow_add-at-in-3 c = omega (arith, c.requires, ap point_count c.in-3.is)
 
 pub point_at-requires-in-3-2 : goal.point_at-requires-in-3-2
 unfolding point_count
-point_at-requires-in-3-2 c = omega (arith, c.requires, ap point_count c.in_default.keys4)
+point_at-requires-in-3-2 c = omega (arith, c.requires, ap point_count c.in-3.is)
 
 pub overflow_add-at-in-3-2 : goal.overflow_add-at-in-3-2
 unfolding point_count
-overflow_add-at-in-3-2 c = omega (arith, c.requires, ap point_count c.in_default.keys4)
+overflow_add-at-in-3-2 c = omega (arith, c.requires, ap point_count c.in-3.is)
 
 pub point_at-requires-in-3-3 : goal.point_at-requires-in-3-3
 unfolding point_count
-point_at-requires-in-3-3 c = omega (arith, c.requires, ap point_count c.in_default.keys4)
+point_at-requires-in-3-3 c = omega (arith, c.requires, ap point_count c.in-3.is)
 
 pub returns-in-0 : goal.returns-in-0
 unfolding element_at
-returns-in-0 c = simp (c.in_default.keys1, c.point_at.ensures)
+returns-in-0 c = simp (c.in-0.is, c.point_at.ensures)
 
 pub returns-in-1 : goal.returns-in-1
 unfolding element_at
-returns-in-1 c = simp (c.in_default.keys2, c.point_at-in-1.ensures)
+returns-in-1 c = simp (c.in-1.is, c.point_at-in-1.ensures)
 
 pub returns-in-2 : goal.returns-in-2
 unfolding element_at
-returns-in-2 c = simp (c.in_default.keys3, c.point_at-in-2.ensures, c.point_at-in-2-2.ensures)
+returns-in-2 c = simp (c.in-2.is, c.point_at-in-2.ensures, c.point_at-in-2-2.ensures)
 
 pub returns-in-3 : goal.returns-in-3
 unfolding element_at
-returns-in-3 c = simp (c.in_default.keys4, c.point_at-in-3.ensures, c.point_at-in-3-2.ensures, c.point_at-in-3-3.ensures)
+returns-in-3 c = simp (c.in-3.is, c.point_at-in-3.ensures, c.point_at-in-3-2.ensures, c.point_at-in-3-3.ensures)
 
 pub returns-in_default : goal.returns-in_default
-returns-in_default c = element_rest c.args.verb _ _ c.in_default.rest.0.0.0.1 c.in_default.rest.0.0.1 c.in_default.rest.0.1 c.in_default.rest.1
+returns-in_default c = element_rest c.args.verb _ _ (omega arith) (omega arith) (omega arith) (omega arith)

@@ -1,0 +1,49 @@
+use mathlib.Core.Path.{sym, ap, ◌∙◌}
+use native.Mathlib.Omega.{arith}
+use Rattle.stream.specs.Stream.{State, state, push_all}
+use Rattle.stream.proofs.Push.{push_all-one}
+use Rattle.lowering.proofs.Entries.{lowered_line, lowered_curve}
+use Rattle.lowering.proofs.Writing.{count_is}
+use Rattle.lowering.proofs.push_lowered.Goals as goal
+
+pub push_line-b2-requires : goal.push_line-b2-requires
+push_line-b2-requires c =
+    let h = lowered_line c.args.l _ c.in-Line.is in
+    omega (arith, c.requires, h.many, h.size)
+
+pub push_quads-m-requires : goal.push_quads-m-requires
+push_quads-m-requires c =
+    let h = lowered_curve c.args.l _ c.in-Curve.is in
+    let s = c.requires in
+    let n = count_is c.in-Curve.c in
+    (omega (arith, s, h.many, n), omega (arith, s, h.size, n))
+
+pub overflow_add-result : goal.overflow_add-result
+overflow_add-result c =
+    let h = lowered_curve c.args.l _ c.in-Curve.is in
+    omega (arith, c.requires, c.well_formed, c.push_quads-m.ensures.1, h.many, h.size)
+
+pub overflow_mul-result : goal.overflow_mul-result
+overflow_mul-result c =
+    let h = lowered_curve c.args.l _ c.in-Curve.is in
+    omega (arith, c.requires, c.well_formed, c.push_quads-m.ensures.1, h.many, h.size)
+
+pub overflow_add-result-in-Curve : goal.overflow_add-result-in-Curve
+overflow_add-result-in-Curve c =
+    let h = lowered_curve c.args.l _ c.in-Curve.is in
+    omega (arith, c.requires, c.well_formed, c.push_quads-m.ensures.1, h.many, h.size)
+
+pub returns-in-Line : goal.returns-in-Line
+returns-in-Line c =
+    let a = c.args in
+    let s : State = state a.b a.verbs.now a.points.now in
+    let h = lowered_line a.l _ c.in-Line.is in
+    record { points_after = c.push_line-b2.ensures ∙ sym (ap (push_all s) h.elements ∙ push_all-one s _); word_value = sym h.word }
+
+pub returns-in-Curve : goal.returns-in-Curve
+returns-in-Curve c =
+    let a = c.args in
+    let s : State = state a.b a.verbs.now a.points.now in
+    let h = lowered_curve c.args.l _ c.in-Curve.is in
+    let e = c.push_quads-m.ensures in
+    record { points_after = e.0 a.b.start a.b.pen ∙ sym (ap (push_all s) h.elements); word_value = e.2 ∙ sym h.word }
