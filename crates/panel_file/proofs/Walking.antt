@@ -1,13 +1,10 @@
 -- Laws for a loop over the records of a good file, by `record_at`. Assumes nothing.
 use mathlib.Core.Path.{◌≡◌, refl, sym, ap, ◌∙◌}
 use mathlib.Core.Bool.{true, false≢true}
-use mathlib.Core.Logic.{⊎_elim}
 use mathlib.Core.List.{List, [], ◌∷◌}
 use Prim.Native.Nat.{ℕ, ◌+◌, ◌≤◌, ◌<◌}
 use native.Mathlib.Omega.{arith}
 use lib.ListN.{length}
-use types.Run.{OneOf}
-use denote.Enum.Declared.{tag_of}
 use Rattle.panel_file.specs.declared.Record.{Record}
 use Rattle.panel_file.specs.declared.Read.{Read}
 use Rattle.panel_file.specs.declared.Read.TheVariants.{Record as ReadRecord, End as ReadEnd, Broken as ReadBroken}
@@ -15,7 +12,6 @@ use Rattle.panel_file.specs.declared.Checked.TheVariants.{Good as CheckedGood, B
 use Rattle.panel_file.specs.declared.Counts.{Counts}
 use Rattle.panel_file.specs.Panel.{Answer, done, refused, broken, limit, entry, record_at, read_of, on_done, followed, records_from, is_done, records_in, counts_of, checked_of}
 use Rattle.panel_file.proofs.Records.{records_follow, record_within, record_bytes, bytes_of, bytes-least}
-use Rattle.panel_file.specs.contracts.Read.{the_type}
 
 -- the value of an answer that has one
 pub is-done : (x : Answer (List Record)) → is_done x ≡ true → x ≡ done (records_in x)
@@ -68,10 +64,10 @@ module _ (file : List ℕ) (at : ℕ) (a : Read) (e : read_of a ≡ record_at fi
     step_records h = ap records_in consed ∙ in_behind (records_from file next) (step-done h)
 
 -- where no record is read in a good file, no records are left
-pub stop_records : (file : List ℕ) (at : ℕ) (a : Read) → read_of a ≡ record_at file at → OneOf (1 ∷ 2 ∷ []) (tag_of the_type a) → is_done (records_from file at) ≡ true
+pub stop_records : (file : List ℕ) (at : ℕ) (a : Read) → read_of a ≡ record_at file at → ((r : Record) (next : ℕ) → a ≡ ReadRecord r next → ⊥) → is_done (records_from file at) ≡ true
     → records_in (records_from file at) ≡ []
 unfolding read_of followed records_in is_done
-stop_records file at (ReadRecord r next) e o h = absurd (⊎_elim (λ p. omega arith) (λ p. omega arith) o)
+stop_records file at (ReadRecord r next) e o h = absurd (o r next refl)
 stop_records file at ReadEnd e o h = ap records_in (following file at ReadEnd e)
 stop_records file at (ReadBroken b) e o h = absurd (false≢true (ap is_done (sym (following file at (ReadBroken b) e)) ∙ h))
 

@@ -1,7 +1,7 @@
 -- The places that the search leaves are those that `touch` gives. Assumes nothing.
-use mathlib.Core.Path.{◌≡◌, refl, sym, ap, ap₂, ◌∙◌}
-use mathlib.Core.Bool.{Bool, true, false, cond}
-use mathlib.Core.List.{List, [], ◌∷◌, ◌++◌, map}
+use mathlib.Core.Path.{◌≡◌, ap, ap₂, ◌∙◌}
+use mathlib.Core.Bool.{true}
+use mathlib.Core.List.{List, [], ◌∷◌, ◌++◌}
 use Prim.Native.Nat.{ℕ, ◌+◌, ◌*◌, ◌≤◌}
 use native.Mathlib.Omega.{arith}
 use lib.Ieee.{Float}
@@ -9,11 +9,10 @@ use lib.ListN.{length, get_or, take, drop, replicate, length-map, length-replica
 use lib.Seq.{take_at, drop_at}
 use Rattle.geometry.specs.declared.Point.{Point}
 use Rattle.panel_file.specs.declared.Record.{Record}
-use Rattle.panel_file.specs.Panel.{Answer, done, limit, records_from, records_of, is_done, records_in, buttons_of, touches_of}
+use Rattle.panel_file.specs.Panel.{done, limit, records_from, records_of, is_done, records_in, buttons_of, touches_of}
 use Rattle.panel_file.proofs.Records.{records_fit, good_short, bytes_of_all}
 use Rattle.panel_file.proofs.Walking.{is-done}
-use Rattle.shape.specs.Refusal.{Outcome}
-use Rattle.touch.specs.Touch.{Place, nowhere, nowhere_code, code_of, place_of, seek, shape_of, shapes_of, place_among, places_of}
+use Rattle.touch.specs.Touch.{nowhere, nowhere_code, code_of, place_of, seek, shape_of, shapes_of, place_among, places_of}
 use Rattle.touch.specs.Search.{floats_of, points_in, passes}
 use Rattle.touch.proofs.Marking.{Below, at_none, seek-below, code_most, place_code, passes-places}
 use Rattle.touch.proofs.Gathering.{points-floats}
