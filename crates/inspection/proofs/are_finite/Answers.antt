@@ -20,7 +20,7 @@ bounds-floats-i c = omega arith
 pub returns-then-not-finite : goal.returns-then-not-finite
 returns-then-not-finite c =
     let l = c.before.before.before.before in
-    let e : finite (get_or l.before.before.args.floats.now l.loop-i.i nan) ≡ false = sym c.is_finite-finite.ensures ∙ not-true _ c.if-not-finite.true in
+    let e : finite (get_or l.before.before.args.floats.now l.loop-i.i nan) ≡ false = sym c.is_finite-finite.ensures ∙ c.if-not-finite.true in
     sym (l.loop-i.invariant.1 ∙ no_more _ _ c.loop-i-test.true e)
 
 pub overflow_add-i : goal.overflow_add-i
@@ -32,7 +32,7 @@ loop-i-smaller c = omega arith
 pub loop-i-preserved : goal.loop-i-preserved
 loop-i-preserved c =
     let l = c.before.before.before.before in
-    let e : finite (get_or l.before.before.args.floats.now l.loop-i.i nan) ≡ true = sym c.is_finite-finite.ensures ∙ not-false _ c.if-not-finite.false in
+    let e : finite (get_or l.before.before.args.floats.now l.loop-i.i nan) ≡ true = sym c.is_finite-finite.ensures ∙ c.if-not-finite.false in
     (omega arith, rw (add-one) (l.loop-i.invariant.1 ∙ one_more _ _ c.loop-i-test.true e))
 
 pub returns : goal.returns
