@@ -1,5 +1,5 @@
 -- How a shape, and the bounds and radii that it is made of, stand in lent floats. Definitions only.
-use Rattle.std.specs.Prelude.{Bool, cond, List, [], ◌∷◌, ◌++◌, ℕ, ◌+◌, get_or, Float}
+use Rattle.std.specs.Prelude.{cond, List, [], ◌∷◌, ◌++◌, ℕ, ◌+◌, get_or, Float}
 use Rattle.std.specs.Float.{nan}
 use Rattle.std.specs.Float.Ieee.{ne}
 use Rattle.geometry.specs.declared.Point.{Point}

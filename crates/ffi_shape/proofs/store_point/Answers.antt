@@ -1,0 +1,10 @@
+use Rattle.stream.proofs.Put.{put_two}
+use native.Mathlib.Omega.{arith}
+use lib.ListN.{length-set}
+use Rattle.ffi_shape.proofs.store_point.Goals as goal
+
+pub bounds-floats-at-2 : goal.bounds-floats-at-2
+bounds-floats-at-2 c = simp length-set (omega arith)
+
+pub returns : goal.returns
+returns c = put_two c.args.floats.now c.args.at c.args.p.x c.args.p.y c.requires
