@@ -5,19 +5,11 @@ use mathlib.Core.List.{List}
 use Prim.Native.Nat.{ℕ}
 use Rattle.text.specs.Numbers.{same_text}
 use Rattle.text.proofs.Spelling.{same_yes, same_no}
-use borrow.Author.Rules.{rules}
-use Rattle.items.proofs.named.Statement.{statement}
-use Rattle.items.proofs.named.Tie as tie
-
-same-requires : tie.Need-same-requires
-same-requires c κs = search rules
+use Rattle.items.proofs.named.Goals as goal
 
 agrees : (r : Bool) (s t : List ℕ) → (r ≡ true → s ≡ t) → (s ≡ t → r ≡ true) → r ≡ same_text s t
 agrees true s t h k = sym (same_yes (h refl))
 agrees false s t h k = sym (same_no (λ e. true≢false (sym (k e))))
 
-returns : tie.Need-returns
+pub returns : goal.returns
 returns c = agrees _ _ _ c.same.ensures.0 c.same.ensures.1
-
-pub named-spec : {M : Type 1} → statement M
-named-spec = tie.close (tie.spec same-requires returns)
