@@ -72,8 +72,8 @@ module _ (vs : List ℕ) (fs : List Float) (shape : RoundSuperellipse) (v : leng
       ((given_simulates seven (length vs) (length fs)).keeps s empty_book (AddTo shape) (holds_none fresh_builder vs fs (refl, refl)))
 
   -- it is never refused
-  pub never_refused : (r : Built) (vs' : List ℕ) (fs' : List Float) → OneOf (1 ∷ 2 ∷ []) (tag_of the_type r) → outcome_of r vs' fs' ≡ step s (AddTo shape) → ⊥
-  never_refused (Done b) vs' fs' h e = ⊎_elim (λ t. omega arith) (λ t. omega arith) h
+  pub never_refused : (r : Built) (vs' : List ℕ) (fs' : List Float) → ((b : Builder) → r ≡ Done b → ⊥) → outcome_of r vs' fs' ≡ step s (AddTo shape) → ⊥
+  never_refused (Done b) vs' fs' h e = h b refl
   never_refused (BadRecord b) vs' fs' h e = let n = ap (λ (o : Outcome). o.number) e ∙ drawn-number in omega arith
   never_refused (NoRoom b) vs' fs' h e = let n = ap (λ (o : Outcome). o.number) e ∙ drawn-number in omega arith
 

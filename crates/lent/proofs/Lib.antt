@@ -1,4 +1,2 @@
 -- The walks over a lent record, and what a by-value call's answer says.
 pub mod Answered
-pub mod Body
-pub mod Pointed

@@ -1,18 +1,17 @@
 -- After a call that is accepted, a stream reads as it did, and then as what the call added.
-use mathlib.Core.Path.{◌≡◌, refl, sym, ap, ◌∙◌}
+use mathlib.Core.Path.{◌≡◌, refl}
 use mathlib.Core.List.{List, ◌++◌}
 use mathlib.Core.Bool.{Bool, true, false, cond}
-use Prim.Native.Nat.{ℕ, ◌+◌, ◌/◌}
 use native.Mathlib.Omega.{arith}
 use lib.ListN.{length}
 use Rattle.stream.specs.declared.Element.{Element}
-use Rattle.stream.specs.Stream.{State, bad_state, room_for, need_of, sizes_of, push_all}
+use Rattle.stream.specs.Stream.{State, room_for, need_of, sizes_of, push_all}
 use Rattle.stream.proofs.Tests.{room-is}
 use Rattle.reader.specs.Reading.{ok, read_all}
 use Rattle.reader.proofs.Holding.{Holding, holding_all, holding_good, reads_back, reads_all}
 use Rattle.reader.proofs.Held.{holding_read}
 use Rattle.lowering.specs.Entries.{Entry, elements_of, joint_word}
-use Rattle.calls.specs.Calls.{Outcome, outcome, attempt}
+use Rattle.calls.specs.Calls.{outcome, attempt}
 
 -- s reads as ks, and has no point besides theirs
 pub record ReadsAs (s : State) (ks : List Element) : Type 0 where

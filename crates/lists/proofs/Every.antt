@@ -1,23 +1,21 @@
 -- What holds of every list of calls that are given by their entries.
-use mathlib.Core.Path.{◌≡◌, refl, sym, ap, subst, ◌∙◌}
-use mathlib.Core.List.{List, [], ◌∷◌, ◌++◌}
+use mathlib.Core.Path.{◌≡◌, refl, ap, ◌∙◌}
+use mathlib.Core.List.{List, [], ◌∷◌}
 use mathlib.Core.Bool.{Bool, true, false, cond}
-use Prim.Native.Nat.{ℕ, zero, suc, ◌+◌, ◌*◌}
+use Prim.Native.Nat.{ℕ}
 use native.Mathlib.Omega.{arith}
 use lib.ListN.{length}
-use lib.Dec.{eqb}
 use lib.Ieee.{Float}
 use Rattle.geometry.specs.declared.Point.{Point}
 use Rattle.stream.specs.declared.Builder.{Builder}
 use Rattle.stream.specs.declared.Element.{Element}
 use Rattle.stream.specs.declared.Element.TheVariants.{Move, Line, Quad, Cubic, Close}
-use Rattle.stream.specs.Stream.{State, state, verb_of, sizes_of}
+use Rattle.stream.specs.Stream.{State, state, sizes_of}
 use Rattle.reader.proofs.Holding.{holding_none, reads_back, reads_all}
 use Rattle.lowering.specs.Entries.{Entry, elements_of, joint_word}
 use Rattle.calls.specs.Calls.{Outcome}
-use Rattle.lists.specs.Simulation.{run, answers}
-use Rattle.lists.specs.Book.{Book, empty_book, Reply, reply, accepts, added, building, bookkeeping}
-use Rattle.lists.specs.Lists.{IsEmpty, count_verb, count_points, Opens, GivenByEntries, EachCall, EveryList, built, book_of}
+use Rattle.lists.specs.Book.{Book, empty_book, Reply, reply, accepts, added}
+use Rattle.lists.specs.Lists.{IsEmpty, count_verb, count_points, GivenByEntries, EachCall, EveryList, built, book_of}
 use Rattle.lists.proofs.Simulated.{run-keeps, run-agrees}
 use Rattle.lists.proofs.Kept.{Holds, given_simulates, refused_same}
 

@@ -2,24 +2,23 @@
 use mathlib.Core.Path.{◌≡◌, refl, sym, ap, ap₂, subst, ◌∙◌}
 use mathlib.Core.List.{List, [], ◌∷◌, ◌++◌}
 use mathlib.Core.Bool.{Bool, true, false, cond, ◌&&◌}
-use Prim.Native.Nat.{ℕ, zero, suc, ◌+◌, ◌-◌, ◌*◌, ◌/◌, ◌≤◌, ◌<◌}
+use Prim.Native.Nat.{ℕ, suc, ◌+◌, ◌/◌}
 use native.Mathlib.Omega.{arith}
 use lib.ListN.{length, length-append}
 use lib.Dec.{leb, eqb}
 use borrow.Author.Tests.{ne_eqb, leb-true}
 use Rattle.geometry.specs.declared.Point.{Point}
-use Rattle.stream.specs.declared.Builder.{Builder}
 use Rattle.stream.specs.declared.Element.{Element}
 use Rattle.stream.specs.declared.Element.TheVariants.{Move, Line, Quad, Cubic, Close}
-use Rattle.stream.specs.Stream.{State, state, is_empty, bad_state, has_room, room_for, need_of, sizes_of, start_after, pen_after, push_all}
+use Rattle.stream.specs.Stream.{State, is_empty, has_room, room_for, sizes_of, start_after, pen_after, push_all}
 use Rattle.stream.proofs.Tests.{and_left, and_right}
 use Rattle.stream.proofs.Push.{sizes_append, push_all-start, push_all-pen}
 use Rattle.reader.proofs.Holding.{Holding, holding_all, holding_good}
-use Rattle.lowering.specs.Entries.{Entry, element_of, elements_of, joint_word}
+use Rattle.lowering.specs.Entries.{Entry, elements_of, joint_word}
 use Rattle.lowering.proofs.Entries.{elements_append}
 use Rattle.calls.specs.Calls.{Outcome, outcome, attempt}
-use Rattle.lists.specs.Simulation.{Machine, Simulates}
-use Rattle.lists.specs.Book.{Book, is_nil, fits_in, accepts, grown, Reply, reply, building, added, bookkeeping}
+use Rattle.lists.specs.Simulation.{Simulates}
+use Rattle.lists.specs.Book.{Book, is_nil, fits_in, accepts, grown, reply, building, added, bookkeeping}
 use Rattle.lists.specs.Lists.{Opens, said, GivenByEntries}
 
 -- behind a move, start and pen depend on nothing before it

@@ -8,8 +8,8 @@ use Rattle.stream.specs.Stream.{State, state, is_empty, verb_of}
 use Rattle.reader.specs.Reading.{Reads, cursor, read_all, ok}
 use Rattle.lowering.specs.Entries.{Entry, elements_of}
 use Rattle.calls.specs.Calls.{Outcome, outcome, attempt}
-use Rattle.lists.specs.Simulation.{Machine, run, answers}
-use Rattle.lists.specs.Book.{Book, empty_book, Reply, accepts, added, building, bookkeeping}
+use Rattle.lists.specs.Simulation.{run, answers}
+use Rattle.lists.specs.Book.{Book, empty_book, accepts, added, building, bookkeeping}
 
 -- a builder with no element: both counts are 0
 abbrev pub IsEmpty : Builder → Type 0

@@ -2,4 +2,3 @@
 // add to a path. No code.
 
 #![tactic(auto)]
-

@@ -1,5 +1,5 @@
 -- The floats that the words of a line spell, and the bounds and radii that twelve of them are. Definitions only.
-use Rattle.std.specs.Prelude.{ℕ, zero, suc, ◌+◌, cond, List, [], ◌∷◌, length, set, get_or, replicate, eqb, leb, Float}
+use Rattle.std.specs.Prelude.{ℕ, zero, suc, ◌+◌, cond, List, length, set, get_or, replicate, eqb, leb, Float}
 use Rattle.std.specs.Float.{nan, binary32}
 use Rattle.std.specs.Float.Ieee.{of_bits}
 use Rattle.geometry.specs.declared.Point.{Point}

@@ -2,4 +2,3 @@
 // (proofs/). No code.
 
 #![tactic(auto)]
-

@@ -55,7 +55,7 @@ module _ (s : State) (shape : RoundSuperellipse) (o : Outline) (e : drawing_of o
   unfolding outline_entries outline_calls
   drawn-is = ap (λ (d : Drawing). elements_of (entries_along origin origin (calls_in d))) e
 
-  pub outline_refused : (n : Need) (r : Built) → n ≡ need_of drawn → r ≡ here n → OneOf (1 ∷ 2 ∷ []) (tag_of the_type r) → outcome_of r s.verbs s.floats ≡ step s (AddTo shape)
+  pub outline_refused : (n : Need) (r : Built) → n ≡ need_of drawn → r ≡ here n → ((b : Builder) → r ≡ Done b → ⊥) → outcome_of r s.verbs s.floats ≡ step s (AddTo shape)
   unfolding step
   outline_refused n r f a h =
       built-wordless r s.verbs s.floats ∙ ap wordless (refused-is s (outline_entries shape) r h (a ∙ ap (λ (x : Need). here x) (f ∙ ap need_of drawn-is)))

@@ -2,4 +2,3 @@
 // computes it.
 
 #![tactic(auto)]
-

@@ -1,0 +1,10 @@
+-- `vectors::answer_all` is safe and ends: the measure is the number of turns that are left. Assumes nothing.
+use mathlib.Core.Path.{◌≡◌}
+use lib.ListN.{length}
+use Rattle.vectors.proofs.answer_all.Given as goal
+
+abbrev pub invariant-loop-turns : goal.invariant-loop-turns
+invariant-loop-turns g l = (length l.piece ≡ length l.initial.piece) × (length l.line ≡ length l.initial.line)
+
+abbrev pub decreases-loop-turns : goal.decreases-loop-turns
+decreases-loop-turns g l = l.turns
