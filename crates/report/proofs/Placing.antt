@@ -11,14 +11,12 @@ use Rattle.geometry.specs.declared.Point.{Point}
 use Rattle.panel_file.specs.declared.Counts.{Counts}
 use Rattle.panel_file.specs.declared.Record.{Record}
 use Rattle.panel_file.specs.declared.Record.TheVariants.{Button as ButtonRecord, Touch as TouchRecord}
-use Rattle.panel_file.specs.Panel.{Answer, done, refused, broken, records_of, is_done, records_in, touches_of}
+use Rattle.panel_file.specs.Panel.{Answer, done, refused, broken, records_of, records_from, is_done, records_in, touches_of}
 use Rattle.panel_file.proofs.Records.{bytes_of}
-use Rattle.touch.specs.declared.TouchedAll.{TouchedAll}
 use Rattle.touch.specs.declared.TouchedAll.TheVariants.{Done, Broken as AllBroken}
 use Rattle.touch.specs.Touch.{Place, nowhere_code, code_of, place_of, shapes_of, place_among, places_of, left, left_of, count_of}
 use Rattle.touch.proofs.Marking.{at_none, place_code, seek-below}
 use Rattle.touch.proofs.Answering.{few_shapes}
-use Rattle.report_line.specs.declared.Line.{Line}
 use Rattle.report_line.specs.Line.{line_of}
 use Rattle.report_line.specs.Text.{text_of}
 use Rattle.report.specs.Report.{touch_line, lines_of}
@@ -83,3 +81,10 @@ pub buttons_most : (c : Counts) (r : Record) → (passed c r).buttons ≤ c.butt
 unfolding passed
 buttons_most c (ButtonRecord b) = omega arith
 buttons_most c (TouchRecord p) = omega arith
+
+-- all records of a file, and those from an offset on
+abbrev pub all_records : List ℕ → List Record
+all_records file = records_in (records_of file)
+
+abbrev pub rest_records : List ℕ → ℕ → List Record
+rest_records file at = records_in (records_from file at)
