@@ -1,6 +1,4 @@
 -- `ffi_panel::shackletongue_record` meets its contract. Assumes nothing.
-use native.Mathlib.Omega.{arith}
-use lib.ListN.{length-set}
 use Rattle.ffi_panel.proofs.Answers.{record_no_place, record_no_floats, record_read, record_end, record_broken}
 use Rattle.ffi_panel.proofs.shackletongue_record.Goals as goal
 
@@ -9,9 +7,6 @@ returns-then-place-ne-RECORD_PLACE c = record_no_place _ _ _ c.if-place-ne-RECOR
 
 pub returns-then-floats-ne-RECORD_FLOATS : goal.returns-then-floats-ne-RECORD_FLOATS
 returns-then-floats-ne-RECORD_FLOATS c = record_no_floats _ _ _ c.if-place-ne-RECORD_PLACE.false c.if-floats-ne-RECORD_FLOATS.true
-
-pub bounds-place-1 : goal.bounds-place-1
-bounds-place-1 c = simp length-set (omega arith)
 
 pub returns-in-Record : goal.returns-in-Record
 returns-in-Record c = record_read _ _ _ _ c.if-place-ne-RECORD_PLACE.false c.if-floats-ne-RECORD_FLOATS.false c.record_at.ensures _ _ _ _ c.in-Record.is c.store_record.ensures.value c.store_record.ensures.floats_after
