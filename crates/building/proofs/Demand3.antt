@@ -1,25 +1,21 @@
 -- Demand 3, proved.
-use mathlib.Core.Path.{◌≡◌, refl, sym, ap, subst, ◌∙◌}
-use mathlib.Core.List.{List, [], ◌∷◌, ◌++◌}
-use mathlib.Core.Bool.{Bool, true, false, cond}
+use mathlib.Core.Path.{◌≡◌, sym, ap, subst, ◌∙◌}
+use mathlib.Core.List.{List, ◌++◌}
+use mathlib.Core.Bool.{true}
 use Prim.Native.Nat.{ℕ}
 use lib.ListN.{length}
 use lib.Ieee.{Float}
 use Rattle.geometry.specs.declared.Point.{Point}
-use Rattle.conic.specs.declared.Conic.{Conic}
 use Rattle.conic.specs.Conic.{lower_of}
 use Rattle.stream.specs.declared.Builder.{Builder}
-use Rattle.stream.specs.Stream.{State, start_after, pen_after}
-use Rattle.lowering.specs.Entries.{Entry, elements_of, pieces_in, joint_word, lowered_of, LineOrQuads}
+use Rattle.stream.specs.Stream.{State, pen_after}
+use Rattle.lowering.specs.Entries.{Entry, elements_of, joint_word, lowered_of, LineOrQuads}
 use Rattle.lowering.proofs.Entries.{line_or_quads}
-use Rattle.calls.specs.declared.Call.TheVariants as call
-use Rattle.calls.specs.Calls as calls
-use Rattle.calls.specs.Calls.{opening, conic_from}
-use Rattle.contour.proofs.Conics.{conic_adds}
+use Rattle.calls.specs.Calls.{opening}
 use Rattle.outline.specs.declared.BuildingCall.{BuildingCall}
-use Rattle.outline.specs.declared.BuildingCall.TheVariants.{ConicTo, AddTo}
+use Rattle.outline.specs.declared.BuildingCall.TheVariants.{ConicTo}
 use Rattle.outline.specs.Step.{entries_of, worded, step}
-use Rattle.lists.specs.Book.{Book, is_nil, accepts, added, grown}
+use Rattle.lists.specs.Book.{Book, is_nil, accepts, added}
 use Rattle.lists.specs.Lists.{IsEmpty, built, book_of}
 use Rattle.lists.proofs.Kept.{Holds, accepted_word}
 use Rattle.lists.proofs.Every.{holds_after, every_list}

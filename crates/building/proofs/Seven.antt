@@ -1,15 +1,10 @@
 -- The seven calls are given by their entries.
 use mathlib.Core.Path.{◌≡◌, refl}
-use mathlib.Core.List.{List, [], ◌∷◌, ◌++◌}
-use mathlib.Core.Bool.{Bool, true, false, cond}
+use mathlib.Core.Bool.{true}
 use Rattle.geometry.specs.declared.Point.{Point}
 use Rattle.stream.specs.Stream.{State, is_empty}
 use Rattle.lowering.specs.Entries.{elements_of}
-use Rattle.calls.specs.declared.Call.{Call}
-use Rattle.calls.specs.Calls as calls
-use Rattle.calls.specs.Calls.{Outcome, attempt, step_by}
-use Rattle.corners.specs.Calls.{calls_in, outline_calls}
-use Rattle.contour.specs.Entries.{entries_along, outline_entries}
+use Rattle.calls.specs.Calls.{attempt}
 use Rattle.outline.specs.declared.BuildingCall.{BuildingCall}
 use Rattle.outline.specs.declared.BuildingCall.TheVariants.{MoveTo, LineTo, QuadTo, ConicTo, CubicTo, Close, AddTo}
 use Rattle.outline.specs.Step.{entries_of, worded, step}

@@ -1,7 +1,7 @@
 -- The six calls of path.rs, and an outline, in their own words.
-use mathlib.Core.Path.{◌≡◌, refl, ◌∙◌}
-use mathlib.Core.List.{List, [], ◌∷◌, ◌++◌}
-use mathlib.Core.Bool.{Bool, true, false, cond}
+use mathlib.Core.Path.{◌≡◌, refl}
+use mathlib.Core.List.{List, ◌++◌}
+use mathlib.Core.Bool.{Bool, true, false}
 use Rattle.geometry.specs.declared.Point.{Point}
 use lib.Ieee.{Float}
 use Rattle.conic.specs.Conic.{lower_of}

@@ -1,13 +1,13 @@
 -- Demand 3, about every list of the seven building calls from an empty builder, with the same two buffers throughout: the stream reads back as exactly
 -- document 01's book of the list, with the counts, spans, joint words and refusals told there. `every-list-is-faithful` (proofs/Demand3.antt) proves it
 -- for all arguments, all buffers of any lengths and contents, and every record with both counts 0. Definitions only.
-use Rattle.std.specs.Prelude.{◌≡◌, List, [], ◌∷◌, ◌++◌, true, ℕ, length, Float}
+use Rattle.std.specs.Prelude.{◌≡◌, List, ◌∷◌, ◌++◌, true, ℕ, length, Float}
 use Rattle.geometry.specs.declared.Point.{Point}
 use Rattle.conic.specs.declared.Conic.{Conic}
 use Rattle.conic.specs.Conic.{lower_of}
 use Rattle.stream.specs.declared.Builder.{Builder}
 use Rattle.stream.specs.Stream.{State}
-use Rattle.lowering.specs.Entries.{Entry, lowered_of, LineOrQuads}
+use Rattle.lowering.specs.Entries.{lowered_of, LineOrQuads}
 use Rattle.calls.specs.Calls.{opening, conic_from}
 use Rattle.shape.specs.declared.RoundSuperellipse.{RoundSuperellipse}
 use Rattle.outline.specs.declared.BuildingCall.{BuildingCall}

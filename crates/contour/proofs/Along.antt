@@ -1,13 +1,12 @@
 -- Calls that run one after the other: lists of them joined, and the room that is left.
-use mathlib.Core.Path.{◌≡◌, refl, sym, ap, ap₂, subst, ◌∙◌}
+use mathlib.Core.Path.{◌≡◌, refl, sym, ap, ap₂, ◌∙◌}
 use mathlib.Core.List.{List, [], ◌∷◌, ◌++◌, append_assoc}
 use mathlib.Core.Bool.{false}
-use Prim.Native.Nat.{ℕ, ◌+◌, ◌*◌, ◌≤◌}
 use native.Mathlib.Omega.{arith}
 use lib.ListN.{length, length-append}
 use Rattle.geometry.specs.declared.Point.{Point}
 use Rattle.stream.specs.declared.Element.{Element}
-use Rattle.stream.specs.Stream.{State, start_of, pen_of, start_after, pen_after, sizes_of, push_all, Fits}
+use Rattle.stream.specs.Stream.{State, start_of, pen_of, start_after, pen_after, sizes_of, push_all}
 use Rattle.stream.proofs.Push.{push_all_append, push_all-verbs, push-all_points, push_all-start, push_all-pen, sizes_append}
 use Rattle.lowering.specs.Entries.{Entry, elements_of}
 use Rattle.lowering.proofs.Entries.{elements_append}

@@ -1,8 +1,8 @@
 -- What a conic adds from the pen on: a line, or 1 to 64 quads, which leave the pen at its target and the start where it was.
 use mathlib.Core.Path.{◌≡◌, refl, ◌∙◌}
-use mathlib.Core.List.{List, [], ◌∷◌, ◌++◌}
+use mathlib.Core.List.{List}
 use mathlib.Core.Bool.{Bool, true, false, cond}
-use Prim.Native.Nat.{ℕ, ◌+◌, ◌*◌, ◌≤◌}
+use Prim.Native.Nat.{◌≤◌}
 use native.Mathlib.Omega.{arith}
 use lib.Dec.{lit≤}
 use lib.ListN.{length}
@@ -11,11 +11,11 @@ use Rattle.geometry.specs.declared.Point.{Point}
 use Rattle.conic.specs.declared.Conic.{Conic}
 use Rattle.conic.specs.declared.Lowered.TheVariants.{Line, Curve}
 use Rattle.conic.specs.Conic.{is_line, lower_of}
-use Rattle.conic.specs.Halving.{Piece, pieces_of}
+use Rattle.conic.specs.Halving.{pieces_of}
 use Rattle.conic.proofs.Whole.{whole-conic}
 use Rattle.stream.specs.declared.Element.{Element}
 use Rattle.stream.specs.Stream.{sizes_of, start_after, pen_after}
-use Rattle.lowering.specs.Entries.{elements_of, quads_of, lowered_of}
+use Rattle.lowering.specs.Entries.{elements_of, lowered_of}
 use Rattle.lowering.proofs.Entries.{quads-length, quads-sizes, quads-start, quads-pen}
 use Rattle.calls.specs.declared.Call.TheVariants.{ConicTo}
 use Rattle.calls.specs.Calls.{entries_of}

@@ -1,6 +1,6 @@
 -- What calls need and where they lead: one call, and lists joined.
 use mathlib.Core.Path.{◌≡◌, refl, sym, ap, ap₂, subst, ◌∙◌}
-use mathlib.Core.List.{List, [], ◌∷◌, ◌++◌, append-nil, flatten}
+use mathlib.Core.List.{List, [], ◌∷◌, ◌++◌, append-nil}
 use mathlib.Core.Bool.{false}
 use Prim.Native.Nat.{ℕ, suc, ◌+◌, ◌*◌, ◌≤◌}
 use native.Mathlib.Omega.{arith}
@@ -18,7 +18,7 @@ use Rattle.lowering.proofs.Entries.{elements_append}
 use Rattle.calls.specs.declared.Call.{Call}
 use Rattle.calls.specs.declared.Call.TheVariants as call
 use Rattle.calls.specs.Calls.{entries_of}
-use Rattle.contour.specs.Entries.{entries_along, start_along, pen_along, Passes}
+use Rattle.contour.specs.Entries.{entries_along, Passes}
 use Rattle.contour.proofs.Along.{start_append, pen_append, along_append}
 use Rattle.contour.proofs.Conics.{conic_adds}
 

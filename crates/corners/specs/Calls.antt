@@ -8,7 +8,6 @@ use Rattle.corners.specs.declared.ConicArc.{ConicArc}
 use Rattle.corners.specs.declared.CubicArc.{CubicArc}
 use Rattle.corners.specs.declared.Forwards.{Forwards}
 use Rattle.corners.specs.declared.Backwards.{Backwards}
-use Rattle.corners.specs.declared.RoundCorner.{RoundCorner}
 use Rattle.corners.specs.declared.Corner.{Corner}
 use Rattle.corners.specs.declared.Corner.TheVariants.{Square, Round}
 use Rattle.corners.specs.declared.Corners.{Corners}

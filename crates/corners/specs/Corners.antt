@@ -14,7 +14,7 @@ use Rattle.arcs.specs.Circle.{circular_arc_points_of}
 use Rattle.arcs.specs.Placement.{apply_of}
 use Rattle.arcs.specs.declared.Placement.{Placement}
 use Rattle.calls.specs.declared.Call.{Call}
-use Rattle.calls.specs.declared.Call.TheVariants.{MoveTo, LineTo, ConicTo, CubicTo, Close}
+use Rattle.calls.specs.declared.Call.TheVariants.{LineTo, ConicTo, CubicTo}
 use Rattle.corners.specs.declared.Curves.{Curves}
 
 -- the degree test: a degree below 2 on either side makes the corner square; a NaN is not below

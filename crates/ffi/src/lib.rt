@@ -11,30 +11,26 @@ ghost use Rattle.exponential.specs.Power.{pow_of};
 ghost use Rattle.trigonometry.specs.Sine.{sin_cos_of, tan_of};
 ghost use Rattle.trigonometry.specs.Arctangent.{atan2_of};
 
-#[unsafe(no_mangle)]
-pub extern "C" fn shackletongue_narrow(x: f64) -> f32
+pub fn shackletongue_narrow(x: f64) -> f32
     ensures { result ≡ narrow_of x }
 {
     ieee::narrow(x)
 }
 
-#[unsafe(no_mangle)]
-pub extern "C" fn shackletongue_sqrt(x: f32) -> f32
+pub fn shackletongue_sqrt(x: f32) -> f32
     ensures { result ≡ sqrt_of binary32 x }
 {
     ieee::sqrt(x)
 }
 
-#[unsafe(no_mangle)]
-pub extern "C" fn shackletongue_pow(b: f32, y: f32) -> f32
+pub fn shackletongue_pow(b: f32, y: f32) -> f32
     ensures { result ≡ pow_of b y }
 {
     exponential::pow(b, y)
 }
 
 // The sine and the cosine go to the two places lent.
-#[unsafe(no_mangle)]
-pub extern "C" fn shackletongue_sin_cos(t: f32, sin: &mut f32, cos: &mut f32)
+pub fn shackletongue_sin_cos(t: f32, sin: &mut f32, cos: &mut f32)
     ensures { (sin.new ≡ (sin_cos_of t).sin) × (cos.new ≡ (sin_cos_of t).cos) }
 {
     let r = trigonometry::sin_cos(t);
@@ -42,15 +38,13 @@ pub extern "C" fn shackletongue_sin_cos(t: f32, sin: &mut f32, cos: &mut f32)
     *cos = r.cos;
 }
 
-#[unsafe(no_mangle)]
-pub extern "C" fn shackletongue_tan(t: f32) -> f32
+pub fn shackletongue_tan(t: f32) -> f32
     ensures { result ≡ tan_of t }
 {
     trigonometry::tan(t)
 }
 
-#[unsafe(no_mangle)]
-pub extern "C" fn shackletongue_atan2(y: f32, x: f32) -> f32
+pub fn shackletongue_atan2(y: f32, x: f32) -> f32
     ensures { result ≡ atan2_of y x }
 {
     trigonometry::atan2(y, x)
@@ -59,8 +53,7 @@ pub extern "C" fn shackletongue_atan2(y: f32, x: f32) -> f32
 // The version of the exported functions, of all crates together.
 const VERSION: u32 = 1;
 
-#[unsafe(no_mangle)]
-pub extern "C" fn shackletongue_version() -> u32
+pub fn shackletongue_version() -> u32
     ensures { result ≡ 1 }
 {
     VERSION

@@ -22,8 +22,7 @@ const NEED_LENGTH: usize = 2;
 const WRONG_LENGTH: u32 = 100;
 
 // Draws the outline of a shape behind what the record holds: 0, 1 or 5. It has no joint word.
-#[unsafe(no_mangle)]
-pub extern "C" fn shackletongue_add_to(
+pub fn shackletongue_add_to(
     shape: &[f32],
     counts: &mut [u64],
     places: &mut [f32],
@@ -52,8 +51,7 @@ fn store_need(need: &mut [u64], n: Need)
 }
 
 // The verbs and the points that the outline of a shape adds.
-#[unsafe(no_mangle)]
-pub extern "C" fn shackletongue_outline_need(shape: &[f32], need: &mut [u64]) -> u32
+pub fn shackletongue_outline_need(shape: &[f32], need: &mut [u64]) -> u32
     ensures { needed result need.new ≡ outline_need_of shape.now need.old }
 {
     if shape.len() != SHAPE_LENGTH {
@@ -67,8 +65,7 @@ pub extern "C" fn shackletongue_outline_need(shape: &[f32], need: &mut [u64]) ->
 }
 
 // The verbs and the points that a conic adds to the record, with the opening move of an empty one.
-#[unsafe(no_mangle)]
-pub extern "C" fn shackletongue_conic_need(
+pub fn shackletongue_conic_need(
     counts: &[u64],
     places: &[f32],
     cx: f32,
@@ -94,8 +91,7 @@ pub extern "C" fn shackletongue_conic_need(
 
 // 1 where no center of the shape lies outside the bounds and every point of its outline is finite, else
 // 0. The bounds are the first four of the floats that the shape was made of.
-#[unsafe(no_mangle)]
-pub extern "C" fn shackletongue_is_consistent(sizes: &[f32], shape: &[f32]) -> u32
+pub fn shackletongue_is_consistent(sizes: &[f32], shape: &[f32]) -> u32
     ensures { result ≡ consistency_of sizes.now shape.now }
 {
     if sizes.len() != SIZES_LENGTH {

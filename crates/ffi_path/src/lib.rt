@@ -80,8 +80,7 @@ pub fn settle_plain(counts: &mut [u64], places: &mut [f32], a: Built) -> u32
     settle(counts, places, calls::with_word(a, 0))
 }
 
-#[unsafe(no_mangle)]
-pub extern "C" fn shackletongue_move_to(
+pub fn shackletongue_move_to(
     counts: &mut [u64],
     places: &mut [f32],
     verbs: &mut [u8],
@@ -98,8 +97,7 @@ pub extern "C" fn shackletongue_move_to(
     WRONG_LENGTH
 }
 
-#[unsafe(no_mangle)]
-pub extern "C" fn shackletongue_line_to(
+pub fn shackletongue_line_to(
     counts: &mut [u64],
     places: &mut [f32],
     verbs: &mut [u8],
@@ -116,8 +114,7 @@ pub extern "C" fn shackletongue_line_to(
     WRONG_LENGTH
 }
 
-#[unsafe(no_mangle)]
-pub extern "C" fn shackletongue_quad_to(
+pub fn shackletongue_quad_to(
     counts: &mut [u64],
     places: &mut [f32],
     verbs: &mut [u8],
@@ -143,8 +140,7 @@ pub extern "C" fn shackletongue_quad_to(
 }
 
 // The joint word is the third of the counts.
-#[unsafe(no_mangle)]
-pub extern "C" fn shackletongue_conic_to(
+pub fn shackletongue_conic_to(
     counts: &mut [u64],
     places: &mut [f32],
     verbs: &mut [u8],
@@ -171,8 +167,7 @@ pub extern "C" fn shackletongue_conic_to(
     WRONG_LENGTH
 }
 
-#[unsafe(no_mangle)]
-pub extern "C" fn shackletongue_cubic_to(
+pub fn shackletongue_cubic_to(
     counts: &mut [u64],
     places: &mut [f32],
     verbs: &mut [u8],
@@ -200,8 +195,7 @@ pub extern "C" fn shackletongue_cubic_to(
     WRONG_LENGTH
 }
 
-#[unsafe(no_mangle)]
-pub extern "C" fn shackletongue_close(
+pub fn shackletongue_close(
     counts: &mut [u64],
     places: &mut [f32],
     verbs: &mut [u8],

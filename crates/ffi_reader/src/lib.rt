@@ -89,8 +89,7 @@ fn settle_reading(cursor: &mut [u64], segment: &mut [f32], a: Reading) -> u32
 
 // Reads the segment at the cursor: 0, 1 or 6. The cursor moves to the next segment and gets the kind of
 // this one (0 move, 1 line, 2 quad, 3 cubic, 4 close, 5 end).
-#[unsafe(no_mangle)]
-pub extern "C" fn shackletongue_read(
+pub fn shackletongue_read(
     counts: &[u64],
     places: &[f32],
     verbs: &[u8],
@@ -154,8 +153,7 @@ fn settle_box(rect: &mut [f32], place: &mut [u64], a: Bounded) -> u32
 
 // The least box round all points: 0, 1 or 6, and then the index of the verb goes to the place. 101 where
 // there is no finite point.
-#[unsafe(no_mangle)]
-pub extern "C" fn shackletongue_box(
+pub fn shackletongue_box(
     counts: &[u64],
     places: &[f32],
     verbs: &[u8],

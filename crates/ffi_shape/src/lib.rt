@@ -150,8 +150,7 @@ fn radii_at(sizes: &[f32]) -> CornerRadii
 
 // Makes a shape of min, max and the radii top left, top right, bottom left, bottom right, into 89
 // floats. 0, or document 01's number; the shape's floats change only with a 0.
-#[unsafe(no_mangle)]
-pub extern "C" fn shackletongue_shape(sizes: &[f32], shape: &mut [f32]) -> u32
+pub fn shackletongue_shape(sizes: &[f32], shape: &mut [f32]) -> u32
     ensures { left result shape.new ≡ make_of sizes.now shape.old }
 {
     if sizes.len() != SIZES_LENGTH {
@@ -259,8 +258,7 @@ fn number(b: bool) -> u32
 }
 
 // 1 where the shape contains the point, 0 where not.
-#[unsafe(no_mangle)]
-pub extern "C" fn shackletongue_contains(shape: &[f32], x: f32, y: f32) -> u32
+pub fn shackletongue_contains(shape: &[f32], x: f32, y: f32) -> u32
     ensures { result ≡ holds_of shape.now (point x y) }
 {
     if shape.len() != SHAPE_LENGTH {

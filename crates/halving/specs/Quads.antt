@@ -1,10 +1,7 @@
 -- How the points of a conic's quads are written: the room that they take, the weights that are remembered meanwhile, and what is left. Definitions only.
-use mathlib.Core.Path.{◌≡◌}
-use mathlib.Core.List.{List, [], ◌∷◌, ◌++◌}
-use mathlib.Core.Bool.{false}
-use Prim.Native.Nat.{ℕ, zero, suc, ◌+◌, ◌*◌, ◌^◌, ◌<◌, ◌≤◌}
-use lib.ListN.{length, get_or, drop}
-use lib.Ieee.{Float, nan, eq}
+use Rattle.std.specs.Prelude.{◌≡◌, List, [], ◌∷◌, ◌++◌, false, ℕ, zero, suc, ◌+◌, ◌*◌, ◌^◌, ◌<◌, ◌≤◌, length, get_or, drop, Float}
+use Rattle.std.specs.Float.{nan}
+use Rattle.std.specs.Float.Ieee.{eq}
 use Rattle.geometry.specs.declared.Point.{Point}
 use Rattle.conic.specs.declared.Conic.{Conic}
 use Rattle.conic.specs.declared.BySquares.{BySquares}

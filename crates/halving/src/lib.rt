@@ -3,12 +3,8 @@
 
 #![tactic(auto)]
 
-ghost use mathlib.Core.Path.{◌≡◌};
-ghost use mathlib.Core.Bool.{false, cond};
-ghost use mathlib.Core.List.{◌∷◌, []};
-ghost use Prim.Native.Nat.{◌+◌, ◌*◌, ◌^◌, ◌<◌, ◌≤◌};
-ghost use lib.ListN.{length, get_or, set};
-ghost use lib.Ieee.{nan};
+ghost use Rattle.std.specs.Prelude.{◌≡◌, false, cond, ◌∷◌, [], ◌+◌, ◌*◌, ◌^◌, ◌<◌, ◌≤◌, length, get_or, set};
+ghost use Rattle.std.specs.Float.{nan};
 ghost use Rattle.conic.specs.Conic.{distance_of, chord_of, near_one_of, near_of, flat_of, flatness_of, half_weight_of};
 ghost use Rattle.conic.specs.Halving.{halve, pieces_of};
 ghost use Rattle.stream.specs.Stream.{put};

@@ -1,30 +1,25 @@
 -- An outline drawn on a fresh builder with room for the largest one: it is accepted, and the floats held are those of its elements.
 use mathlib.Core.Path.{◌≡◌, refl, sym, ap, subst, ◌∙◌}
-use mathlib.Core.List.{List, [], ◌∷◌}
-use mathlib.Core.Logic.{⊎_elim}
-use mathlib.Core.Bool.{Bool, true, false, cond, ◌&&◌}
-use Prim.Native.Nat.{ℕ, suc, ◌+◌, ◌-◌, ◌*◌, ◌/◌, ◌≤◌, ◌<◌}
+use mathlib.Core.List.{List}
+use mathlib.Core.Bool.{Bool, true, false, cond}
+use Prim.Native.Nat.{ℕ, suc, ◌*◌, ◌/◌, ◌≤◌, ◌<◌}
 use native.Mathlib.Omega.{arith}
 use lib.ListN.{length, take, drop, get_or, drop_of_length-le}
 use lib.Seq.{drop-cons}
-use lib.Dec.{leb}
 use borrow.Author.Tests.{le-leb}
 use lib.Ieee.{Float, nan}
 use lib.Ieee.Scale.{finite}
-use types.Run.{OneOf}
-use denote.Enum.Declared.{tag_of}
 use Rattle.stream.specs.declared.Builder.{Builder}
-use Rattle.stream.specs.Stream.{State, state, fresh_builder, all_floats, sizes_of}
+use Rattle.stream.specs.Stream.{State, state, fresh_builder, sizes_of}
 use Rattle.lowering.specs.Entries.{elements_of}
 use Rattle.calls.specs.declared.Built.{Built}
 use Rattle.calls.specs.declared.Built.TheVariants.{Done, BadRecord, NoRoom}
 use Rattle.calls.specs.Calls.{Outcome, outcome_of}
-use Rattle.calls.specs.contracts.Built.{the_type}
 use Rattle.shape.specs.declared.RoundSuperellipse.{RoundSuperellipse}
 use Rattle.contour.specs.Entries.{outline_entries}
 use Rattle.outline.specs.declared.BuildingCall.TheVariants.{AddTo}
 use Rattle.outline.specs.Step.{entries_of, step}
-use Rattle.lists.specs.Book.{Book, empty_book, fits_in, accepts, grown}
+use Rattle.lists.specs.Book.{empty_book, fits_in, accepts, grown}
 use Rattle.lists.proofs.Kept.{Holds, given_simulates}
 use Rattle.lists.proofs.Every.{holds_none, each-call}
 use Rattle.building.proofs.Seven.{seven}

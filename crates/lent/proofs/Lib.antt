@@ -1,2 +1,2 @@
--- The walks over a lent record, and what a by-value call's answer says.
+-- What a by-value call's answer says.
 pub mod Answered

@@ -2,16 +2,14 @@
 use mathlib.Core.Path.{◌≡◌, refl, sym, ap, subst, ◌∙◌}
 use mathlib.Core.List.{List, [], ◌∷◌, ◌++◌, append-nil, flatten}
 use mathlib.Core.Bool.{Bool, true, false, cond}
-use Prim.Native.Nat.{ℕ}
 use lib.Dec.{lit≤}
 use lib.Ieee.{Float}
 use Rattle.geometry.specs.declared.Point.{Point}
 use Rattle.conic.specs.declared.Conic.{Conic}
-use Rattle.conic.specs.declared.Lowered.{Lowered}
 use Rattle.conic.specs.declared.Lowered.TheVariants as lowered
 use Rattle.conic.specs.Conic.{is_line, lower_of}
 use Rattle.stream.specs.declared.Element.{Element}
-use Rattle.stream.specs.declared.Element.TheVariants.{Move, Line, Quad, Cubic, Close}
+use Rattle.stream.specs.declared.Element.TheVariants.{Move, Line, Quad, Cubic}
 use Rattle.stream.specs.Stream.{origin, start_after, pen_after, start_of, pen_of, verb_of, points_of, bytes_of}
 use Rattle.lowering.specs.Entries.{Entry, plain, elements_of, lowered_of}
 use Rattle.lowering.proofs.Entries.{elements_append}
@@ -21,7 +19,7 @@ use Rattle.calls.specs.Calls.{opening, conic_from, entries_of}
 use Rattle.shape.specs.declared.RoundSuperellipse.{RoundSuperellipse}
 use Rattle.corners.specs.Calls.{calls_in, outline_of, outline_calls}
 use Rattle.contour.specs.Entries.{entries_along, outline_entries}
-use Rattle.original.specs.PathBuilder.{some, unwrap_or, PathBuilder, is_none, ensure_started, drawn, move_to, line_to, quad_to, cubic_to, close, push_conic, conic_to, perform, perform_all, add_to}
+use Rattle.original.specs.PathBuilder.{unwrap_or, PathBuilder, is_none, ensure_started, drawn, move_to, line_to, quad_to, cubic_to, close, push_conic, conic_to, perform, perform_all, add_to}
 use Rattle.original.proofs.Mirrors.{Mirrors, opened, some_append, some-opened, mirrors_then, mirrors_move, mirrors_drawn, mirrors_line, mirrors_close, mirrors_started}
 use Rattle.original.proofs.Conics.{Behind, mirrors_halved}
 

@@ -1,6 +1,6 @@
 -- Demand 2 for lists of building calls, proved.
 use mathlib.Core.Path.{◌≡◌, refl, sym, ap, subst, ◌∙◌}
-use mathlib.Core.List.{List, [], ◌∷◌, ◌++◌}
+use mathlib.Core.List.{List, [], ◌∷◌}
 use mathlib.Core.Bool.{Bool, true, false, cond}
 use Prim.Native.Nat.{ℕ, ◌*◌}
 use native.Mathlib.Omega.{arith}
@@ -9,14 +9,14 @@ use lib.Ieee.{Float}
 use Rattle.geometry.specs.declared.Point.{Point}
 use Rattle.stream.specs.declared.Builder.{Builder}
 use Rattle.stream.specs.declared.Element.{Element}
-use Rattle.stream.specs.Stream.{State, state, start_after, pen_after, floats_in, sizes_of, bytes_of, all_floats}
+use Rattle.stream.specs.Stream.{State, state, start_after, pen_after, floats_in, bytes_of}
 use Rattle.lowering.specs.Entries.{Entry, elements_of}
 use Rattle.lowering.proofs.Entries.{elements_append}
 use Rattle.outline.specs.declared.BuildingCall.{BuildingCall}
 use Rattle.outline.specs.declared.BuildingCall.TheVariants.{MoveTo, LineTo, QuadTo, ConicTo, CubicTo, Close, AddTo}
-use Rattle.outline.specs.Step.{entries_of, worded, step}
+use Rattle.outline.specs.Step.{entries_of, step}
 use Rattle.lists.specs.Simulation.{run}
-use Rattle.lists.specs.Book.{Book, empty_book, is_nil, accepts, added, grown, building, bookkeeping}
+use Rattle.lists.specs.Book.{Book, empty_book, is_nil, accepts, added, grown, building}
 use Rattle.lists.specs.Lists.{IsEmpty, built}
 use Rattle.lists.proofs.Kept.{Holds, given_simulates}
 use Rattle.lists.proofs.Every.{holds_none, each-call}

@@ -1,17 +1,17 @@
 -- The Rust's builder after elements: its lists are theirs, and its start and its current point are where they leave them.
-use mathlib.Core.Path.{◌≡◌, refl, sym, ap, ap₂, subst, ◌∙◌}
+use mathlib.Core.Path.{◌≡◌, refl, sym, ap, subst, ◌∙◌}
 use mathlib.Core.List.{List, [], ◌∷◌, ◌++◌, append_assoc, append-nil}
-use mathlib.Core.Bool.{Bool, true, false, cond}
+use mathlib.Core.Bool.{Bool, true, false}
 use Prim.Native.Nat.{ℕ}
 use native.Mathlib.Omega.{arith}
 use lib.Ieee.{Float}
 use Rattle.geometry.specs.declared.Point.{Point}
 use Rattle.stream.specs.declared.Element.{Element}
-use Rattle.stream.specs.declared.Element.TheVariants.{Move, Line, Quad, Cubic, Close}
+use Rattle.stream.specs.declared.Element.TheVariants.{Move, Line, Quad, Close}
 use Rattle.stream.specs.Stream.{origin, verb_of, points_of, floats_in, start_of, pen_of, start_after, pen_after, bytes_of, all_floats}
 use Rattle.stream.proofs.Lists.{bytes_append, bytes_one}
 use Rattle.contour.proofs.Along.{start_append, pen_append}
-use Rattle.original.specs.PathBuilder.{Option, none, some, PathBuilder, is_none, ensure_started, drawn, move_to, line_to, quad_to, cubic_to, close}
+use Rattle.original.specs.PathBuilder.{some, PathBuilder, is_none, ensure_started, drawn, move_to, line_to, quad_to, close}
 
 -- ---- the points of a list of elements
 

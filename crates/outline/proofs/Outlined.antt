@@ -1,11 +1,9 @@
 -- An outline as a call: admitted or refused by its need, written from what was drawn.
 use mathlib.Core.Path.{◌≡◌, refl, sym, ap, subst, ◌∙◌}
-use mathlib.Core.List.{List, [], ◌∷◌}
+use mathlib.Core.List.{List}
 use Prim.Native.Nat.{ℕ}
 use lib.ListN.{length}
 use lib.Ieee.{Float}
-use types.Run.{OneOf}
-use denote.Enum.Declared.{tag_of}
 use Rattle.stream.specs.declared.Builder.{Builder}
 use Rattle.stream.specs.declared.Element.{Element}
 use Rattle.stream.specs.declared.Need.{Need}
@@ -15,7 +13,6 @@ use Rattle.lowering.specs.Entries.{elements_of}
 use Rattle.calls.specs.declared.Built.{Built}
 use Rattle.calls.specs.declared.Built.TheVariants.{Done, BadRecord, NoRoom}
 use Rattle.calls.specs.Calls.{entries_of, outcome, outcome_of, admit_of}
-use Rattle.calls.specs.contracts.Built.{the_type}
 use Rattle.calls.proofs.Admission.{Admitted, admitted_for, refused-is, done-is}
 use Rattle.calls.proofs.Largest.{Covered}
 use Rattle.contour.proofs.Turns.{drawn-sizes}

@@ -4,7 +4,6 @@ use Rattle.std.specs.Float.{binary32, nan}
 use Rattle.std.specs.Float.Ieee.{of_bits, lt}
 use Rattle.geometry.specs.declared.Point.{Point}
 use Rattle.stream.specs.declared.Element.{Element}
-use Rattle.octant.specs.declared.Octant.{Octant}
 use Rattle.octant.specs.Degree.{corner_at, first_max_ratio, second_max_ratio, n_and_xj_of}
 use Rattle.octant.specs.Octant.{close_enough, compute_octant_of}
 use Rattle.arcs.specs.Conics.{superellipse_conic_factors_of}

@@ -1,5 +1,5 @@
 // A closed triangle, drawn by the calls over a lent record: the record is a local, lent to one call
-// after the other. Its parameters are plain, so whoever calls it needs no walk by hand.
+// after the other.
 
 #![tactic(auto)]
 

@@ -1,0 +1,18 @@
+-- `ffi_panel::shackletongue_record` meets its contract. Assumes nothing.
+use Rattle.ffi_panel.proofs.Answers.{record_no_place, record_no_floats, record_read, record_end, record_broken}
+use Rattle.ffi_panel.proofs.shackletongue_record.Goals as goal
+
+pub returns-then-place-ne-RECORD_PLACE : goal.returns-then-place-ne-RECORD_PLACE
+returns-then-place-ne-RECORD_PLACE c = record_no_place _ _ _ c.if-place-ne-RECORD_PLACE.true
+
+pub returns-then-floats-ne-RECORD_FLOATS : goal.returns-then-floats-ne-RECORD_FLOATS
+returns-then-floats-ne-RECORD_FLOATS c = record_no_floats _ _ _ c.if-place-ne-RECORD_PLACE.false c.if-floats-ne-RECORD_FLOATS.true
+
+pub returns-in-Record : goal.returns-in-Record
+returns-in-Record c = record_read _ _ _ _ c.if-place-ne-RECORD_PLACE.false c.if-floats-ne-RECORD_FLOATS.false c.record_at.ensures _ _ _ _ c.in-Record.is c.store_record.ensures.value c.store_record.ensures.floats_after
+
+pub returns-in-End : goal.returns-in-End
+returns-in-End c = record_end _ _ _ _ c.if-place-ne-RECORD_PLACE.false c.if-floats-ne-RECORD_FLOATS.false c.record_at.ensures c.in-End.is
+
+pub returns-in-Broken : goal.returns-in-Broken
+returns-in-Broken c = record_broken _ _ _ _ c.if-place-ne-RECORD_PLACE.false c.if-floats-ne-RECORD_FLOATS.false c.record_at.ensures _ c.in-Broken.is

@@ -1,0 +1,7 @@
+-- `ffi_panel::store_button` meets its contract. Assumes nothing.
+use Rattle.ffi_panel.proofs.Storing.{button-stored}
+use Rattle.ffi_panel.proofs.store_button.Goals as goal
+
+pub returns : goal.returns
+returns c =
+    button-stored _ _ _ _ _ _ _ _ c.store_point.ensures c.store_point-2.ensures c.store_point-3.ensures c.store_point-4.ensures c.store_point-5.ensures c.store_point-6.ensures

@@ -1,0 +1,7 @@
+use Rattle.ffi_path.proofs.Lending.{filled}
+use Rattle.ffi_path.specs.Lent.{counts_of, places_of}
+use Rattle.ffi_path.proofs.store.Goals as goal
+
+pub returns : goal.returns
+unfolding counts_of places_of
+returns c = (filled c.args.counts.now (counts_of c.args.b c.args.word) c.requires.0, filled c.args.places.now (places_of c.args.b) c.requires.1)
