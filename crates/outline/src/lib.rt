@@ -25,7 +25,7 @@ const MOST_VERBS: usize = 1035;
 const MOST_POINTS: usize = 2074;
 
 // A building call as a value: the six of path.rs, and the outline of a shape.
-#[derive(Drop)]
+#[derive(Clone, Copy)]
 pub enum BuildingCall {
     MoveTo(Point),
     LineTo(Point),
