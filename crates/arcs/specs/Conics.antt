@@ -49,7 +49,7 @@ twelve = of_bits binary32 0x4140_0000  -- 12.0
 unfoldable pub capped_degree : Float → Float
 capped_degree n = let max_n = min_n ⊕ twelve ⊗ step in cond (le max_n n) max_n n
 
--- superellipse_conic_factors: only the right-hand term of each interpolation is multiplied by the root or by x_j/a
+-- superellipse_conic_factors: only the right-hand term of each interpolation is multiplied by the root or by xJ/a
 unfoldable pub superellipse_conic_factors_of : Float → Float → ConicFactors
 superellipse_conic_factors_of n xj_over_a =
     let capped = capped_degree n in

@@ -1,5 +1,5 @@
 -- Demand 3, about every list of the seven building calls from an empty builder, with the same two buffers throughout: the stream reads back as exactly
--- document 01's book of the list, with the counts, spans, joint words and refusals told there. `every-list-is-faithful` (proofs/Demand3.antt) proves it
+-- document 01's book of the list, with the counts, spans, joint words and refusals told there. `every_list_is_faithful` (proofs/Demand3.antt) proves it
 -- for all arguments, all buffers of any lengths and contents, and every record with both counts 0. Definitions only.
 use Rattle.std.specs.Prelude.{◌≡◌, List, ◌∷◌, ◌++◌, true, ℕ, length, Float}
 use Rattle.geometry.specs.declared.Point.{Point}

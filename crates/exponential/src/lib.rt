@@ -48,8 +48,8 @@ pub struct Parts {
 // The digits of u's pattern are those of f, and its exponent is e + 1023. The first digit after the
 // point says whether f is 1.5 at least; then f is halved by the exponent of its pattern.
 pub fn parts_of(u: f64) -> Parts
-    requires fact_1 { T (fits binary32 u) }
-    requires fact_2 { T (positive u) }
+    requires is_single { T (fits binary32 u) }
+    requires is_positive { T (positive u) }
     ensures { ln_at result.f result.e ≡ ln_of u }
 {
     let bits: u64 = f64::to_bits(u);
@@ -61,8 +61,8 @@ pub fn parts_of(u: f64) -> Parts
 }
 
 fn ln(u: f64) -> f64
-    requires fact_1 { T (fits binary32 u) }
-    requires fact_2 { T (positive u) }
+    requires is_single { T (fits binary32 u) }
+    requires is_positive { T (positive u) }
     ensures { result ≡ ln_of u }
 {
     let p = parts_of(u);
@@ -185,10 +185,10 @@ pub struct Powers {
 }
 
 fn ln_pair(u: f64, v: f64) -> Pair
-    requires fact_1 { T (fits binary32 u) }
-    requires fact_2 { T (positive u) }
-    requires fact_3 { T (fits binary32 v) }
-    requires fact_4 { T (positive v) }
+    requires first_is_single { T (fits binary32 u) }
+    requires first_is_positive { T (positive u) }
+    requires second_is_single { T (fits binary32 v) }
+    requires second_is_positive { T (positive v) }
     ensures { (result.first ≡ ln_of u) × (result.second ≡ ln_of v) }
 {
     let p = parts_of(u);
@@ -238,8 +238,8 @@ pub fn is_plain(b: f32, y: f32) -> bool
 }
 
 fn main_pair(a: f32, y: f32, b: f32, z: f32) -> Powers
-    requires fact_1 { T (positive a) }
-    requires fact_2 { T (positive b) }
+    requires first_is_positive { T (positive a) }
+    requires second_is_positive { T (positive b) }
     ensures { (result.first ≡ main_of a y) × (result.second ≡ main_of b z) }
 {
     let l = ln_pair(ieee::widen(a), ieee::widen(b));

@@ -4,7 +4,7 @@
 #![tactic(auto)]
 
 ghost use Rattle.std.specs.Prelude.{◌≡◌, true, ◌++◌, ◌+◌, ◌<◌, ◌≤◌, length, drop};
-ghost use Rattle.io.specs.Counts.{IsPrefixLen as Counts·of};
+ghost use Rattle.io.specs.Counts.{IsPrefixLen};
 ghost use Rattle.panel_file.specs.Panel.{records_of, is_done, records_in};
 ghost use Rattle.report_line.specs.Text.{text_of, Over};
 ghost use Rattle.inspection_report.specs.Findings.{finding, findings_at, next_index, findings_of, inspection_of};
@@ -57,7 +57,7 @@ fn put_finding(record: Record, index: usize, out: &mut [u8; 393288], at: usize) 
 // The report on a good file.
 fn put_findings(file: &[u8], out: &mut [u8; 393288]) -> usize
     requires { is_done (records_of file.now) ≡ true }
-    ensures counts_of { Counts·of result out.new }
+    ensures prefix_len { IsPrefixLen result out.new }
     ensures over { Over out.old 0 (text_of (findings_of 0 (records_in (records_of file.now)))) result out.new }
 {
     let mut at = 0;
@@ -75,7 +75,7 @@ fn put_findings(file: &[u8], out: &mut [u8; 393288]) -> usize
 
 // The report's text, at the start of out; the answer is its length. What is past it stays.
 pub fn inspect(file: &[u8], out: &mut [u8; 393288]) -> usize
-    ensures counts_of { Counts·of result out.new }
+    ensures prefix_len { IsPrefixLen result out.new }
     ensures value { result ≡ length (text_of (inspection_of file.now)) }
     ensures out_after { out.new ≡ text_of (inspection_of file.now) ++ drop result out.old }
 {

@@ -14,7 +14,7 @@ row a b = of_bits binary32 a ∷ of_bits binary32 b ∷ []
 abbrev pub entry : List (List Float) → ℕ → ℕ → Float
 entry table left column = get_or (get_or table left []) column nan
 
--- the degree n and k_x_j, fitted against the ratio of side to radius
+-- the degree n and k_xJ, fitted against the ratio of side to radius
 abbrev pub corner_table : List (List Float)
 corner_table =
     row 0x4000_0000 0x3f90_fe81  -- ratio 2.00: 2.0, 1.1327668

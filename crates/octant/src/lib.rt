@@ -18,7 +18,7 @@ const GAP_FACTOR: f32 = 0.292_893_22;
 
 const SQRT_2: f32 = 1.414_213_56;
 
-// The degree n and k_x_j, fitted against the ratio of side to radius: from 2.0 to 2.5 by 0.1, then to 5.0 by 0.5.
+// The degree n and k_xJ, fitted against the ratio of side to radius: from 2.0 to 2.5 by 0.1, then to 5.0 by 0.5.
 const CORNER_TABLE: [[f32; 2]; 11] = [
     [2.000_000_0, 1.132_766_8],
     [2.183_498, 1.203_119_2],
@@ -122,7 +122,7 @@ fn table_steps(ratio: f32) -> f32
     (ratio - FIRST_MAX_RATIO) * SECOND_STEP_INVERSE + FIRST_NUM_RECORDS - 1.0
 }
 
-// The degree n and x_j/a for a ratio of side to radius.
+// The degree n and xJ/a for a ratio of side to radius.
 pub fn n_and_xj(ratio: f32) -> NAndXj
     ensures { result ≡ n_and_xj_of ratio }
 {

@@ -1,6 +1,6 @@
 -- Demand 2, for lists of building calls: a list that finds room throughout leaves in the buffers what the Rust's builder holds after it. That a shape and
 -- containment equal the Rust's is said by the contracts of `new` and `contains`, whose definitions `new_of` and `contains_of` are its transcriptions.
--- `every-list-is-the-rust's` (proofs/Demand2.antt) proves it. Definitions only.
+-- `every_list_is_the_rust's` (proofs/Demand2.antt) proves it. Definitions only.
 use Rattle.std.specs.Prelude.{◌≡◌, List, [], ◌∷◌, ℕ, ◌*◌, take, Float}
 use Rattle.stream.specs.declared.Builder.{Builder}
 use Rattle.stream.specs.Stream.{State, floats_in}

@@ -3,7 +3,7 @@
 #![tactic(auto)]
 
 ghost use Rattle.std.specs.Prelude.{◌≡◌, true, ◌++◌, ◌<◌, length, drop};
-ghost use Rattle.io.specs.Counts.{IsPrefixLen as Counts·of};
+ghost use Rattle.io.specs.Counts.{IsPrefixLen};
 ghost use Rattle.shape.specs.Refusal.{outcome_of};
 ghost use Rattle.panel_file.specs.Panel.{records_of, is_done, records_in};
 ghost use Rattle.touch.specs.Touch.{place_of};
@@ -68,7 +68,7 @@ fn pass(c: Counts, record: Record) -> Counts
 // The report on a good file, with the places of its touches.
 fn put_lines(file: &[u8], touched: &[u32; 5461], out: &mut [u8; 393288]) -> usize
     requires { (is_done (records_of file.now) ≡ true) × Placed (records_in (records_of file.now)) touched.now 0 (records_in (records_of file.now)) }
-    ensures counts_of { Counts·of result out.new }
+    ensures prefix_len { IsPrefixLen result out.new }
     ensures over { Over out.old 0 (text_of (lines_of (records_in (records_of file.now)) 0 (records_in (records_of file.now)))) result out.new }
 {
     let mut at = 0;
@@ -91,7 +91,7 @@ fn put_lines(file: &[u8], touched: &[u32; 5461], out: &mut [u8; 393288]) -> usiz
 
 // The report's text, at the start of out; the answer is its length. What is past it stays.
 pub fn report(file: &[u8], out: &mut [u8; 393288]) -> usize
-    ensures counts_of { Counts·of result out.new }
+    ensures prefix_len { IsPrefixLen result out.new }
     ensures value { result ≡ length (text_of (report_of file.now)) }
     ensures out_after { out.new ≡ text_of (report_of file.now) ++ drop result out.old }
 {

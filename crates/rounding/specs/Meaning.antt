@@ -46,7 +46,7 @@ Closer v true a false b c = 0 < a + b → (a ≤ b) × at_most v (b - a) (2 * c)
 -- v + a / c ≤ v + b / c
 Closer v true a true b c = a ≤ b
 
--- How far x and y are apart, or x and -y where q is true. Where v is a fraction, `Closer` is the order of two such distances: `closer-distance` of Meets.antt.
+-- How far x and y are apart, or x and -y where q is true. Where v is a fraction, `Closer` is the order of two such distances: `closer_distance` of Meets.antt.
 abbrev pub distance : Bool → ℕ → ℕ → ℕ
 distance false x y = x - y + (y - x)
 distance true x y = x + y

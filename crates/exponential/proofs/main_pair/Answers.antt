@@ -14,7 +14,7 @@ ln_pair-l-requires c =
     let w = sym c.widen-2.ensures in
     let fits-v = subst (λ (x : Float). T (fits binary32 x)) v (subst T (sym s.well_formed.0.1) tt) in
     let fits-w = subst (λ (x : Float). T (fits binary32 x)) w (subst T (sym s.well_formed.1.1.0.1) tt) in
-    record { fact_1 = fits-v; fact_2 = subst (λ (x : Float). T (positive x)) v s.requires.fact_1; fact_3 = fits-w; fact_4 = subst (λ (x : Float). T (positive x)) w s.requires.fact_2 }
+    record { first_is_single = fits-v; first_is_positive = subst (λ (x : Float). T (positive x)) v s.requires.first_is_positive; second_is_single = fits-w; second_is_positive = subst (λ (x : Float). T (positive x)) w s.requires.second_is_positive }
 
 pub returns : goal.returns
 unfolding main_of

@@ -9,7 +9,7 @@ use Rattle.exponential.proofs.parts_of.Goals as goal
 use Rattle.exponential.proofs.parts_of.Goals.{Start}
 
 numbers : (c : Start) → Numbers c.args.u
-numbers c = split c.args.u c.requires.fact_1 c.requires.fact_2
+numbers c = split c.args.u c.requires.is_single c.requires.is_positive
 
 no_nan : (u : Float) → T (positive u) → T (not (is_nan u))
 unfolding is_nan
@@ -24,7 +24,7 @@ pub returns : goal.returns
 returns c = rw c.unbiased.ensures (sym (numbers c.before).ln)
 
 pub float_to_bits-bits : goal.float_to_bits-bits
-float_to_bits-bits c = no_nan c.args.u c.requires.fact_2
+float_to_bits-bits c = no_nan c.args.u c.requires.is_positive
 
 pub float_from_bits-result : goal.float_from_bits-result
 float_from_bits-result c = (numbers c).no_nan

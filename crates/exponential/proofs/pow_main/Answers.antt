@@ -11,7 +11,7 @@ unfolding widen_of
 ln-requires c =
     let s = c.before.before in
     let w = sym c.widen-2.ensures in
-    record { fact_1 = subst (λ (x : Float). T (fits binary32 x)) w (subst T (sym s.well_formed.0.1) tt); fact_2 = subst (λ (x : Float). T (positive x)) w s.requires }
+    record { is_single = subst (λ (x : Float). T (fits binary32 x)) w (subst T (sym s.well_formed.0.1) tt); is_positive = subst (λ (x : Float). T (positive x)) w s.requires }
 
 pub returns : goal.returns
 unfolding main_of

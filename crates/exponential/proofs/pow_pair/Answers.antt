@@ -23,7 +23,7 @@ module _ (c : Then-is_plain) where
   second_plain = plain-is start.args.b start.args.z (sym c.is_plain-2.ensures ∙ tests.1)
 
 pub main_pair-requires : goal.main_pair-requires
-main_pair-requires c = record { fact_1 = (first_plain c).0; fact_2 = (second_plain c).0 }
+main_pair-requires c = record { first_is_positive = (first_plain c).0; second_is_positive = (second_plain c).0 }
 
 pub returns-then-is_plain : goal.returns-then-is_plain
 returns-then-is_plain c = (c.main_pair.ensures.0 ∙ sym (first_plain c.before).1, c.main_pair.ensures.1 ∙ sym (second_plain c.before).1)

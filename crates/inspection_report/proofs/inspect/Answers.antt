@@ -21,7 +21,7 @@ returns-in-Good c =
     let e : text_of (inspection_of file) ≡ text_of (findings_of 0 (records_in (records_of file))) =
     ap (λ (x : Answer (List Record)). text_of (inspected x)) (is-done (records_of file) (checked_good (records_of file) c.in-Good.field-0 c.in-Good.ensures).0) in
     let w = all_over _ _ _ _ c.put_findings.ensures.over in
-    rw e (record { counts_of = c.put_findings.ensures.counts_of; value = w.0; out_after = w.1 })
+    rw e (record { prefix_len = c.put_findings.ensures.prefix_len; value = w.0; out_after = w.1 })
 
 pub returns-in-Broken : goal.returns-in-Broken
 unfolding inspection_of inspected
@@ -32,4 +32,4 @@ returns-in-Broken c =
     let e : text_of (inspection_of file) ≡ line_of (Broken 7 o) =
     ap (λ (x : Answer (List Record)). text_of (inspected x)) (sym broken) ∙ one_line (Broken 7 o) in
     let w = all_over _ _ _ _ c.put_line.ensures.over in
-    rw e (record { counts_of = c.put_line.ensures.upper_bound.1; value = w.0; out_after = w.1 })
+    rw e (record { prefix_len = c.put_line.ensures.upper_bound.1; value = w.0; out_after = w.1 })

@@ -23,7 +23,7 @@ returns-in_default c =
     let loop = c.loop-record in
     let stop = stop_records file loop.at c.record_at.result c.record_at.ensures c.in_default.not-Record loop.invariant.3 in
     let whole = loop.invariant.4 ∙ none_found (take loop.n loop.out) loop.index (records_in (records_from file loop.at)) stop in
-    record { counts_of = loop.invariant.6; over = over_whole _ loop.out loop.n _ loop.invariant.5 whole loop.invariant.6 }
+    record { prefix_len = loop.invariant.6; over = over_whole _ loop.out loop.n _ loop.invariant.5 whole loop.invariant.6 }
 
 pub put_finding-n-requires : goal.put_finding-n-requires
 put_finding-n-requires c = omega (arith, read-within _ _ c.record_at.result c.record_at.ensures c.in-Record.«record» c.in-Record.next c.in-Record.is)

@@ -32,7 +32,7 @@ returns-in_default c =
     ∙ ap (λ (rs : List Record). take loop.n loop.out ++ text_of (lines_of (all_records file) loop.counts.buttons rs)) (stop_records file loop.at c.record_at.result c.record_at.ensures c.in_default.not-Record loop.invariant.4)
     ∙ ap (λ (t : List ℕ). take loop.n loop.out ++ t) (one_line End))
     c.put_line.ensures.upper_bound.1 in
-    record { counts_of = c.put_line.ensures.upper_bound.1; over = o }
+    record { prefix_len = c.put_line.ensures.upper_bound.1; over = o }
 
 pub offset_bounds-touched-t : goal.offset_bounds-touched-t
 offset_bounds-touched-t c = omega (arith, read-within _ _ c.record_at.result c.record_at.ensures c.in-Record.«record» c.in-Record.next c.in-Record.is)

@@ -28,7 +28,7 @@ returns-in-Done c =
     let e : text_of (report_of file) ≡ text_of (lines_of rs 0 rs) =
     ap (λ (x : Answer (List Record)). text_of (reported x)) (is-done (records_of file) good.0) in
     let w = all_over _ _ _ _ c.put_lines.ensures.over in
-    rw e (record { counts_of = c.put_lines.ensures.counts_of; value = w.0; out_after = w.1 })
+    rw e (record { prefix_len = c.put_lines.ensures.prefix_len; value = w.0; out_after = w.1 })
 
 pub returns-in-Broken : goal.returns-in-Broken
 unfolding report_of reported touch_all_of
@@ -40,4 +40,4 @@ returns-in-Broken c =
     let e : text_of (report_of file) ≡ line_of (Broken 7 o) =
     ap (λ (x : Answer (List Record)). text_of (reported x)) broken ∙ one_line (Broken 7 o) in
     let w = all_over _ _ _ _ c.put_line.ensures.over in
-    rw e (record { counts_of = c.put_line.ensures.upper_bound.1; value = w.0; out_after = w.1 })
+    rw e (record { prefix_len = c.put_line.ensures.upper_bound.1; value = w.0; out_after = w.1 })
