@@ -125,7 +125,7 @@ pub fn intersection(p1: Point, k1: f32, p2: Point, k2: f32) -> Point
     ensures { result ≡ intersection_of p1 k1 p2 k2 }
 {
     if ieee::abs(k1 - k2) < octant::CLOSE_ENOUGH {
-        return geometry::shrink(geometry::add(p1, p2), 2.0);
+        return (p1 + p2) / 2.0;
     }
     let x = (k1 * p1.x - k2 * p2.x + p2.y - p1.y) / (k1 - k2);
     Point {
@@ -197,30 +197,29 @@ pub fn arc_points(param: Octant, sin: f32, cos: f32, tan: f32) -> [Point; 4]
     ensures { result ≡ arc_points_of param sin cos tan }
 {
     let start = param.circle_start;
-    let start_vector = geometry::sub(start, param.circle_center);
+    let start_vector = start - param.circle_center;
     let end_vector = Point {
         x: start_vector.x * cos - start_vector.y * sin,
         y: start_vector.x * sin + start_vector.y * cos,
     };
-    let circle_end = geometry::add(param.circle_center, end_vector);
+    let circle_end = param.circle_center + end_vector;
     // The tangent at the start is start_vector turned by a right angle, so as long.
-    let radius = geometry::length(start_vector);
-    let start_tangent = geometry::scale(
-        Point {
-            x: start_vector.y,
-            y: -start_vector.x,
-        },
-        1.0 / radius,
-    );
-    let end_tangent = geometry::normalize(Point {
+    let radius = start_vector.length();
+    let turned = Point {
+        x: start_vector.y,
+        y: -start_vector.x,
+    };
+    let start_tangent = turned * (1.0 / radius);
+    let end_turned = Point {
         x: -end_vector.y,
         y: end_vector.x,
-    });
+    };
+    let end_tangent = end_turned.normalize();
     let bezier_factor = tan * 4.0 / 3.0;
-    let first = geometry::scale(geometry::scale(start_tangent, bezier_factor), radius);
-    let second = geometry::scale(geometry::scale(end_tangent, bezier_factor), radius);
-    let control1 = geometry::add(start, first);
-    let control2 = geometry::add(circle_end, second);
+    let first = start_tangent * bezier_factor * radius;
+    let second = end_tangent * bezier_factor * radius;
+    let control1 = start + first;
+    let control2 = circle_end + second;
     [start, control1, control2, circle_end]
 }
 
@@ -246,7 +245,7 @@ impl Placement {
     pub fn apply(self, p: Point) -> Point
         ensures { result ≡ apply_of self p }
     {
-        let own = geometry::add(self.octant_offset, flipped(self.flip, p));
-        geometry::add(self.offset, geometry::mul(self.scale, own))
+        let own = self.octant_offset + flipped(self.flip, p);
+        self.offset + self.scale * own
     }
 }

@@ -58,8 +58,8 @@ fn is_line(c: Conic) -> bool
         if c.weight <= 0.0 {
             return true;
         }
-        if geometry::is_finite(c.ctrl) {
-            if geometry::is_finite(c.to) {
+        if c.ctrl.is_finite() {
+            if c.to.is_finite() {
                 return false;
             }
         }
@@ -82,18 +82,15 @@ fn conic_mid(c: Conic) -> Point
     ensures { result ≡ conic_mid c }
 {
     let w = c.weight;
-    let sum = geometry::add(
-        geometry::add(c.from, geometry::scale(c.ctrl, 2.0 * w)),
-        c.to,
-    );
-    geometry::shrink(sum, 2.0 * (1.0 + w))
+    let sum = c.from + c.ctrl * (2.0 * w) + c.to;
+    sum / (2.0 * (1.0 + w))
 }
 
 fn quad_mid(c: Conic) -> Point
     ensures { result ≡ quad_mid c }
 {
-    let sum = geometry::add(geometry::add(c.from, geometry::scale(c.ctrl, 2.0)), c.to);
-    geometry::scale(sum, 0.25)
+    let sum = c.from + c.ctrl * 2.0 + c.to;
+    sum * 0.25
 }
 
 // Whether a weight is near 1. By two comparisons: the absolute value would keep a NaN apart.
@@ -121,8 +118,8 @@ pub fn closeness(x0: f32, y0: f32, x1: f32, y1: f32, x2: f32, y2: f32, w: f32) -
         to: Point { x: x2, y: y2 },
         weight: w,
     };
-    let chord = geometry::length_squared(geometry::sub(c.to, c.from));
-    let distance = geometry::length_squared(geometry::sub(conic_mid(c), quad_mid(c)));
+    let chord = (c.to - c.from).length_squared();
+    let distance = (conic_mid(c) - quad_mid(c)).length_squared();
     BySquares {
         flat: (1e-30 < chord) & (distance <= 9.99998e-7 * chord),
         curved: (1e-30 < chord) & (1.000002e-6 * chord < distance),
@@ -156,9 +153,9 @@ pub fn is_near(x0: f32, y0: f32, x1: f32, y1: f32, x2: f32, y2: f32, w: f32) -> 
         to: Point { x: x2, y: y2 },
         weight: w,
     };
-    let chord = geometry::length(geometry::sub(c.to, c.from));
+    let chord = (c.to - c.from).length();
     if chord > 0.0 {
-        return geometry::length(geometry::sub(conic_mid(c), quad_mid(c))) <= 0.001 * chord;
+        return (conic_mid(c) - quad_mid(c)).length() <= 0.001 * chord;
     }
     false
 }
@@ -190,11 +187,11 @@ pub fn subdivide(x0: f32, y0: f32, x1: f32, y1: f32, x2: f32, y2: f32, w: f32) -
     let ctrl = Point { x: x1, y: y1 };
     let to = Point { x: x2, y: y2 };
     let scale = 1.0 / (1.0 + w);
-    let weighted = geometry::scale(ctrl, w);
-    let left_ctrl = geometry::scale(geometry::add(from, weighted), scale);
-    let right_ctrl = geometry::scale(geometry::add(weighted, to), scale);
-    let sum = geometry::add(geometry::add(from, geometry::scale(ctrl, 2.0 * w)), to);
-    let mid = geometry::scale(sum, 0.5 * scale);
+    let weighted = ctrl * w;
+    let left_ctrl = (from + weighted) * scale;
+    let right_ctrl = (weighted + to) * scale;
+    let sum = from + ctrl * (2.0 * w) + to;
+    let mid = sum * (0.5 * scale);
     Subdivision {
         left_ctrl: left_ctrl,
         mid: mid,

@@ -22,7 +22,7 @@ use shape::RoundSuperellipse;
 fn superellipse_contains(x: f32, y: f32, a: f32, n: f32) -> bool
     ensures { result ≡ in_superellipse (point x y) a n }
 {
-    let p_se = geometry::shrink(Point { x, y }, a);
+    let p_se = Point { x, y } / a;
     let powers = exponential::pow_pair(p_se.x, n, p_se.y, n);
     powers.first + powers.second <= 1.0
 }
@@ -59,8 +59,8 @@ pub fn octant_contains(param: Octant, p: Point) -> bool
     if p.x <= param.circle_start.x {
         return superellipse_contains(p.x, p.y, param.se_a, param.se_n);
     }
-    let circle_radius = geometry::distance_squared(param.circle_start, param.circle_center);
-    geometry::length_squared(geometry::sub(p, param.circle_center)) < circle_radius
+    let circle_radius = param.circle_start.distance_squared(param.circle_center);
+    (p - param.circle_center).length_squared() < circle_radius
 }
 
 // A square corner owns its top and left borders, where the scale is negative, but not its bottom and right ones.
@@ -86,8 +86,8 @@ fn square_contains(param: Quadrant, norm_point: Point) -> bool
 fn round_contains(param: Quadrant, norm_point: Point) -> bool
     ensures { result ≡ round_contains param norm_point }
 {
-    let from_top = geometry::sub(norm_point, param.top.offset);
-    let from_right = geometry::sub(norm_point, param.right.offset);
+    let from_top = norm_point - param.top.offset;
+    let from_right = norm_point - param.right.offset;
     let flipped = Point {
         x: from_right.y,
         y: from_right.x,
@@ -145,7 +145,7 @@ fn mirrored(x: f32, check_quadrant: bool) -> f32
 pub fn corner_contains(param: Quadrant, p: Point, check_quadrant: bool) -> bool
     ensures { result ≡ corner_contains_of param p check_quadrant }
 {
-    let norm_point = geometry::div(geometry::sub(p, param.offset), param.signed_scale);
+    let norm_point = (p - param.offset) / param.signed_scale;
     if is_passed_over(norm_point, check_quadrant) {
         return true;
     }
@@ -220,8 +220,8 @@ fn arcs_of(q: Quadrant) -> Arcs
             y: q.right.circle_center.y,
         },
         radius: Point {
-            x: geometry::distance_squared(q.top.circle_start, q.top.circle_center),
-            y: geometry::distance_squared(q.right.circle_start, q.right.circle_center),
+            x: q.top.circle_start.distance_squared(q.top.circle_center),
+            y: q.right.circle_start.distance_squared(q.right.circle_center),
         },
         is_round: !is_square(q),
     }
@@ -248,11 +248,11 @@ fn is_beyond_circle(x: f32, y: f32, start: f32, d: f32, radius: f32) -> bool
 fn is_beyond_arcs(a: Arcs, n: Point) -> bool
     ensures { result ≡ beyond_arcs a n }
 {
-    let x = geometry::sub(n, a.from_x);
-    let y = geometry::sub(Point { x: n.y, y: n.x }, a.from_y);
-    let dx = geometry::sub(x, a.center_x);
-    let dy = geometry::sub(y, a.center_y);
-    let d = geometry::add(geometry::mul(dx, dx), geometry::mul(dy, dy));
+    let x = n - a.from_x;
+    let y = Point { x: n.y, y: n.x } - a.from_y;
+    let dx = x - a.center_x;
+    let dy = y - a.center_y;
+    let d = dx * dx + dy * dy;
     let top = is_beyond_circle(x.x, y.x, a.start.x, d.x, a.radius.x);
     let right = is_beyond_circle(x.y, y.y, a.start.y, d.y, a.radius.y);
     a.is_round & (top | right)
@@ -262,9 +262,9 @@ fn is_beyond_arcs(a: Arcs, n: Point) -> bool
 pub fn misses(a: Arcs, same: bool, p: Point) -> bool
     ensures { result ≡ misses_of a same p }
 {
-    let n = geometry::div(geometry::sub(p, a.offset), a.signed_scale);
+    let n = (p - a.offset) / a.signed_scale;
     if same {
-        return is_beyond_arcs(a, geometry::abs(n));
+        return is_beyond_arcs(a, n.abs());
     }
     !((n.x < 0.0) | (n.y < 0.0)) & is_beyond_arcs(a, n)
 }

@@ -183,33 +183,26 @@ fn next_point(param: Quadrant, reverse: bool) -> Point
     ensures { result ≡ next_of param reverse }
 {
     if reverse {
-        return geometry::add(
-            param.top.offset,
-            Point {
+        return param.top.offset
+            + Point {
                 x: 0.0,
                 y: param.top.se_a,
-            },
-        );
+            };
     }
-    geometry::add(
-        param.right.offset,
-        Point {
+    param.right.offset
+        + Point {
             x: param.right.se_a,
             y: 0.0,
-        },
-    )
+        }
 }
 
 fn square_corner(param: Quadrant, reverse: bool, scale: Point) -> Corner
     ensures { calls_of result ≡ square_calls param reverse scale }
 {
     let a = param.top.se_a;
-    let corner = geometry::add(param.top.offset, Point { x: a, y: a });
+    let corner = param.top.offset + Point { x: a, y: a };
     let next = next_point(param, reverse);
-    Corner::Square(
-        geometry::add(param.offset, geometry::mul(scale, corner)),
-        geometry::add(param.offset, geometry::mul(scale, next)),
-    )
+    Corner::Square(param.offset + scale * corner, param.offset + scale * next)
 }
 
 // The octant that is drawn first goes forwards, the other backwards; the right one is flipped.
@@ -233,7 +226,7 @@ fn round_corner(param: Quadrant, top: Curves, right: Curves, reverse: bool, scal
 fn draw_corner(param: Quadrant, reverse: bool, scale_sign: Point) -> Corner
     ensures { calls_of result ≡ corner_calls param reverse scale_sign }
 {
-    let scale = geometry::mul(param.signed_scale, scale_sign);
+    let scale = param.signed_scale * scale_sign;
     if is_square(param) {
         return square_corner(param, reverse, scale);
     }
@@ -247,10 +240,10 @@ fn draw_corner(param: Quadrant, reverse: bool, scale_sign: Point) -> Corner
 fn equal_corners(tr: Quadrant) -> Corners
     ensures { call_lists result ≡ equal_corners tr }
 {
-    let scale1 = geometry::mul(tr.signed_scale, Point { x: 1.0, y: 1.0 });
-    let scale2 = geometry::mul(tr.signed_scale, Point { x: 1.0, y: -1.0 });
-    let scale3 = geometry::mul(tr.signed_scale, Point { x: -1.0, y: -1.0 });
-    let scale4 = geometry::mul(tr.signed_scale, Point { x: -1.0, y: 1.0 });
+    let scale1 = tr.signed_scale * Point { x: 1.0, y: 1.0 };
+    let scale2 = tr.signed_scale * Point { x: 1.0, y: -1.0 };
+    let scale3 = tr.signed_scale * Point { x: -1.0, y: -1.0 };
+    let scale4 = tr.signed_scale * Point { x: -1.0, y: 1.0 };
     if is_square(tr) {
         return Corners {
             first: square_corner(tr, false, scale1),
@@ -294,7 +287,7 @@ fn both(
 fn round_one(param: Quadrant, solved: BothCurves, reverse: bool) -> Corner
     ensures { calls_of result ≡ solved_calls param solved.top solved.right reverse (mul_of param.signed_scale (point one one)) }
 {
-    let scale = geometry::mul(param.signed_scale, Point { x: 1.0, y: 1.0 });
+    let scale = param.signed_scale * Point { x: 1.0, y: 1.0 };
     let top = solved.top;
     let right = solved.right;
     round_corner(param, top, right, reverse, scale)
@@ -396,14 +389,12 @@ fn draw_corners(shape: RoundSuperellipse) -> Corners
 fn start_point(tr: Quadrant) -> Point
     ensures { result ≡ start_point tr }
 {
-    let side = geometry::add(
-        tr.top.offset,
-        Point {
+    let side = tr.top.offset
+        + Point {
             x: 0.0,
             y: tr.top.se_a,
-        },
-    );
-    geometry::add(tr.offset, geometry::mul(tr.signed_scale, side))
+        };
+    tr.offset + tr.signed_scale * side
 }
 
 pub fn draw(shape: RoundSuperellipse) -> Outline

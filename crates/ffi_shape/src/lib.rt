@@ -175,10 +175,7 @@ fn norm_point(shape: &[f32], at: usize, p: Point) -> Point
     requires { at + 22 ≤ length shape.now }
     ensures { result ≡ div_of (sub_of p (point_at shape.now at)) (point_at shape.now (at + 2)) }
 {
-    geometry::div(
-        geometry::sub(p, point_at(shape, at)),
-        point_at(shape, at + 2),
-    )
+    (p - point_at(shape, at)) / point_at(shape, at + 2)
 }
 
 // Whether the corner at `at` holds a point in its own space. Called from several places, it is compiled apart from
@@ -227,9 +224,9 @@ fn octants_hold(shape: &[f32], n: Point) -> bool
     ensures { result ≡ round_contains (quadrant_at shape.now 0) n }
 {
     let top = octant_at(shape, 4);
-    if containment::octant_contains(top, geometry::sub(n, top.offset)) {
+    if containment::octant_contains(top, n - top.offset) {
         let right = octant_at(shape, 13);
-        let q = geometry::sub(n, right.offset);
+        let q = n - right.offset;
         return containment::octant_contains(right, Point { x: q.y, y: q.x });
     }
     false
@@ -241,7 +238,7 @@ fn same_holds(shape: &[f32], p: Point) -> bool
     ensures { result ≡ corner_contains_of (quadrant_at shape.now 0) p false }
 {
     let corner = quadrant_at(shape, 0);
-    let n = geometry::abs(norm_point(shape, 0, p));
+    let n = norm_point(shape, 0, p).abs();
     if containment::is_square(corner) {
         return norm_holds(shape, 0, n.x, n.y);
     }

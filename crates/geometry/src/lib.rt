@@ -7,71 +7,104 @@ ghost use Rattle.std.specs.Prelude.{◌≡◌};
 ghost use Rattle.ieee.specs.Basic.{abs_of};
 ghost use Rattle.geometry.specs.Point.{add_of, sub_of, mul_of, div_of, scale_of, shrink_of, neg_of, abs_point, finite_point, length_squared_of, distance_squared_of, length_of, normalize_of};
 
-#[derive(Clone, Copy)]
+use std::ops::{Add, Div, Mul, Neg, Sub};
+
+#[derive(Clone, Copy, PartialEq)]
 pub struct Point {
     pub x: f32,
     pub y: f32,
 }
 
-pub fn add(p: Point, q: Point) -> Point
-    ensures { result ≡ add_of p q }
-{
-    Point {
-        x: p.x + q.x,
-        y: p.y + q.y,
+impl Add for Point {
+    type Output = Point;
+
+    ghost add_gives = { λ p q r. r ≡ add_of p q };
+
+    fn add(self, q: Point) -> Point {
+        Point {
+            x: self.x + q.x,
+            y: self.y + q.y,
+        }
     }
 }
 
-pub fn sub(p: Point, q: Point) -> Point
-    ensures { result ≡ sub_of p q }
-{
-    Point {
-        x: p.x - q.x,
-        y: p.y - q.y,
+impl Sub for Point {
+    type Output = Point;
+
+    ghost sub_gives = { λ p q r. r ≡ sub_of p q };
+
+    fn sub(self, q: Point) -> Point {
+        Point {
+            x: self.x - q.x,
+            y: self.y - q.y,
+        }
     }
 }
 
-pub fn mul(p: Point, q: Point) -> Point
-    ensures { result ≡ mul_of p q }
-{
-    Point {
-        x: p.x * q.x,
-        y: p.y * q.y,
+impl Mul for Point {
+    type Output = Point;
+
+    ghost mul_gives = { λ p q r. r ≡ mul_of p q };
+
+    fn mul(self, q: Point) -> Point {
+        Point {
+            x: self.x * q.x,
+            y: self.y * q.y,
+        }
     }
 }
 
-pub fn div(p: Point, q: Point) -> Point
-    ensures { result ≡ div_of p q }
-{
-    Point {
-        x: p.x / q.x,
-        y: p.y / q.y,
+impl Div for Point {
+    type Output = Point;
+
+    ghost div_gives = { λ p q r. r ≡ div_of p q };
+
+    fn div(self, q: Point) -> Point {
+        Point {
+            x: self.x / q.x,
+            y: self.y / q.y,
+        }
     }
 }
 
-pub fn scale(p: Point, k: f32) -> Point
-    ensures { result ≡ scale_of p k }
-{
-    Point {
-        x: p.x * k,
-        y: p.y * k,
+impl Mul<f32> for Point {
+    type Output = Point;
+
+    ghost mul_gives = { λ p k r. r ≡ scale_of p k };
+
+    fn mul(self, k: f32) -> Point {
+        Point {
+            x: self.x * k,
+            y: self.y * k,
+        }
     }
 }
 
 // A true division of each component, never a product with a reciprocal.
-pub fn shrink(p: Point, k: f32) -> Point
-    ensures { result ≡ shrink_of p k }
-{
-    Point {
-        x: p.x / k,
-        y: p.y / k,
+impl Div<f32> for Point {
+    type Output = Point;
+
+    ghost div_gives = { λ p k r. r ≡ shrink_of p k };
+
+    fn div(self, k: f32) -> Point {
+        Point {
+            x: self.x / k,
+            y: self.y / k,
+        }
     }
 }
 
-pub fn neg(p: Point) -> Point
-    ensures { result ≡ neg_of p }
-{
-    Point { x: -p.x, y: -p.y }
+impl Neg for Point {
+    type Output = Point;
+
+    ghost neg_gives = { λ p r. r ≡ neg_of p };
+
+    fn neg(self) -> Point {
+        Point {
+            x: -self.x,
+            y: -self.y,
+        }
+    }
 }
 
 // As ieee's `abs`, by the greater of x and 0 - x: a processor takes the greater of both coordinates at once, and a NaN is not
@@ -86,42 +119,44 @@ fn magnitude(x: f32) -> f32
     opposite
 }
 
-pub fn abs(p: Point) -> Point
-    ensures { result ≡ abs_point p }
-{
-    Point {
-        x: magnitude(p.x),
-        y: magnitude(p.y),
+impl Point {
+    pub fn abs(self) -> Point
+        ensures { result ≡ abs_point self }
+    {
+        Point {
+            x: magnitude(self.x),
+            y: magnitude(self.y),
+        }
     }
-}
 
-pub fn is_finite(p: Point) -> bool
-    ensures { result ≡ finite_point p }
-{
-    ieee::is_finite(p.x) && ieee::is_finite(p.y)
-}
+    pub fn is_finite(self) -> bool
+        ensures { result ≡ finite_point self }
+    {
+        ieee::is_finite(self.x) && ieee::is_finite(self.y)
+    }
 
-pub fn length_squared(p: Point) -> f32
-    ensures { result ≡ length_squared_of p }
-{
-    p.x * p.x + p.y * p.y
-}
+    pub fn length_squared(self) -> f32
+        ensures { result ≡ length_squared_of self }
+    {
+        self.x * self.x + self.y * self.y
+    }
 
-pub fn distance_squared(p: Point, q: Point) -> f32
-    ensures { result ≡ distance_squared_of p q }
-{
-    length_squared(sub(p, q))
-}
+    pub fn distance_squared(self, q: Point) -> f32
+        ensures { result ≡ distance_squared_of self q }
+    {
+        (self - q).length_squared()
+    }
 
-pub fn length(p: Point) -> f32
-    ensures { result ≡ length_of p }
-{
-    ieee::sqrt(length_squared(p))
-}
+    pub fn length(self) -> f32
+        ensures { result ≡ length_of self }
+    {
+        ieee::sqrt(self.length_squared())
+    }
 
-// The reciprocal first, then a product.
-pub fn normalize(p: Point) -> Point
-    ensures { result ≡ normalize_of p }
-{
-    scale(p, 1.0 / length(p))
+    // The reciprocal first, then a product.
+    pub fn normalize(self) -> Point
+        ensures { result ≡ normalize_of self }
+    {
+        self * (1.0 / self.length())
+    }
 }

@@ -150,24 +150,21 @@ pub fn n_and_xj(ratio: f32) -> NAndXj
 pub fn circle_center_through(a: Point, b: Point, r: f32) -> Point
     ensures { result ≡ circle_center_through_of a b r }
 {
-    let a_to_b = geometry::sub(b, a);
-    let m = geometry::shrink(geometry::add(a, b), 2.0);
+    let a_to_b = b - a;
+    let m = (a + b) / 2.0;
     let c_to_m = Point {
         x: -a_to_b.y,
         y: a_to_b.x,
     };
     // c_to_m is as long: it is a_to_b turned by a right angle.
-    let length = geometry::length(a_to_b);
+    let length = a_to_b.length();
     let distance_am = length / 2.0;
     let distance_cm = ieee::sqrt(r * r - distance_am * distance_am);
-    let unit = geometry::scale(c_to_m, 1.0 / length);
-    geometry::sub(
-        m,
-        Point {
-            x: distance_cm * unit.x,
-            y: distance_cm * unit.y,
-        },
-    )
+    let unit = c_to_m * (1.0 / length);
+    m - Point {
+        x: distance_cm * unit.x,
+        y: distance_cm * unit.y,
+    }
 }
 
 // The signed angle from one vector to another.
@@ -230,8 +227,8 @@ pub fn finished(center: Point, a: f32, s: Fitted, yj: f32, tan_phij: f32) -> Oct
     let point_m = Point { x: a - g, y: a - g };
     let point_j = Point { x: xj, y: yj };
     let circle_center = circle_center_through(point_j, point_m, r);
-    let from = geometry::sub(point_m, circle_center);
-    let to = geometry::sub(point_j, circle_center);
+    let from = point_m - circle_center;
+    let to = point_j - circle_center;
     Octant {
         offset: center,
         se_a: a,

@@ -26,7 +26,7 @@ fn forward_scale(radii: Point, norm_radius: f32) -> Point
     if norm_radius == 0.0 {
         return Point { x: 1.0, y: 1.0 };
     }
-    geometry::shrink(radii, norm_radius)
+    radii / norm_radius
 }
 
 // Only a NaN is replaced: an infinite scale stays.
@@ -78,15 +78,15 @@ pub struct Frame {
 pub fn frame_of(center: Point, corner: Point, in_radii: Point, sign: Point) -> Frame
     ensures { result ≡ frame_of center corner in_radii sign }
 {
-    let corner_vector = geometry::sub(corner, center);
+    let corner_vector = corner - center;
     let radii = Point {
         x: ieee::min(ieee::abs(in_radii.x), ieee::abs(corner_vector.x)),
         y: ieee::min(ieee::abs(in_radii.y), ieee::abs(corner_vector.y)),
     };
     let norm_radius = ieee::min(radii.x, radii.y);
     let forward_scale = forward_scale(radii, norm_radius);
-    let norm_half_size = geometry::div(geometry::abs(corner_vector), forward_scale);
-    let raw = geometry::div(corner_vector, norm_half_size);
+    let norm_half_size = corner_vector.abs() / forward_scale;
+    let raw = corner_vector / norm_half_size;
     let signed_scale = Point {
         x: or_sign(raw.x, sign.x),
         y: or_sign(raw.y, sign.y),

@@ -167,7 +167,7 @@ fn widen(e: Extent, p: Point) -> Extent
 fn include(e: Extent, p: Point) -> Extent
     ensures { result ≡ include_of e p }
 {
-    if geometry::is_finite(p) {
+    if p.is_finite() {
         return widen(e, p);
     }
     e

@@ -6,7 +6,7 @@
 ghost use Rattle.std.specs.Prelude.{◌≡◌};
 ghost use Rattle.octant.specs.Octant.{point};
 ghost use Rattle.quadrant.specs.Quadrant.{frame_of, solved_of};
-ghost use Rattle.shape.specs.Shape.{same_point, all_same, one_quadrant, equal_shape, unequal_shape, shape_of};
+ghost use Rattle.shape.specs.Shape.{all_same, one_quadrant, equal_shape, unequal_shape, shape_of};
 ghost use Rattle.shape.specs.Refusal.{any_of, beyond_limit, point_beyond, radii_beyond, bounds_beyond, point_below, radii_below, inverted, outcome_of, new_of};
 
 use geometry::Point;
@@ -49,36 +49,25 @@ pub enum Answer {
     Inverted,
 }
 
-fn same_point(p: Point, q: Point) -> bool
-    ensures { result ≡ same_point p q }
-{
-    p.x == q.x && p.y == q.y
-}
-
 fn all_same(radii: CornerRadii) -> bool
     ensures { result ≡ all_same radii }
 {
-    if same_point(radii.top_left, radii.top_right) {
-        return same_point(radii.top_left, radii.bottom_left)
-            && same_point(radii.top_left, radii.bottom_right);
-    }
-    false
+    radii.top_left == radii.top_right
+        && radii.top_left == radii.bottom_left
+        && radii.top_left == radii.bottom_right
 }
 
 // Four empty corners are left out: a plain rectangle follows the half-open border rule.
 fn one_quadrant(radii: CornerRadii) -> bool
     ensures { result ≡ one_quadrant radii }
 {
-    if all_same(radii) {
-        return radii.top_left.x != 0.0 && radii.top_left.y != 0.0;
-    }
-    false
+    all_same(radii) && radii.top_left.x != 0.0 && radii.top_left.y != 0.0
 }
 
 fn equal_shape(bounds: Bounds, radii: CornerRadii) -> RoundSuperellipse
     ensures { result ≡ equal_shape bounds radii }
 {
-    let center = geometry::shrink(geometry::add(bounds.min, bounds.max), 2.0);
+    let center = (bounds.min + bounds.max) / 2.0;
     let right_top = Point {
         x: bounds.max.x,
         y: bounds.min.y,

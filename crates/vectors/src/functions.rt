@@ -57,26 +57,26 @@ fn of_one(name: &[u8], x: f32) -> Answer {
 
 fn point_measure(name: &[u8], p: Point) -> Answer {
     if same(name, b"point_length_squared") {
-        return Answer::Single(geometry::length_squared(p));
+        return Answer::Single(p.length_squared());
     }
     if same(name, b"point_length") {
-        return Answer::Single(geometry::length(p));
+        return Answer::Single(p.length());
     }
     if same(name, b"point_is_finite") {
-        return Answer::Flag(geometry::is_finite(p));
+        return Answer::Flag(p.is_finite());
     }
     Answer::Bad
 }
 
 fn point_alone(name: &[u8], p: Point) -> Answer {
     if same(name, b"point_neg") {
-        return of_point(geometry::neg(p));
+        return of_point(-p);
     }
     if same(name, b"point_abs") {
-        return of_point(geometry::abs(p));
+        return of_point(p.abs());
     }
     if same(name, b"point_normalize") {
-        return of_point(geometry::normalize(p));
+        return of_point(p.normalize());
     }
     point_measure(name, p)
 }
@@ -107,33 +107,33 @@ fn of_three(name: &[u8], a: f32, b: f32, c: f32) -> Answer {
     }
     let p = Point { x: a, y: b };
     if same(name, b"point_scale") {
-        return of_point(geometry::scale(p, c));
+        return of_point(p * c);
     }
     if same(name, b"point_shrink") {
-        return of_point(geometry::shrink(p, c));
+        return of_point(p / c);
     }
     Answer::Bad
 }
 
 fn point_product(name: &[u8], p: Point, q: Point) -> Answer {
     if same(name, b"point_mul") {
-        return of_point(geometry::mul(p, q));
+        return of_point(p * q);
     }
     if same(name, b"point_div") {
-        return of_point(geometry::div(p, q));
+        return of_point(p / q);
     }
     Answer::Bad
 }
 
 fn of_points(name: &[u8], p: Point, q: Point) -> Answer {
     if same(name, b"point_add") {
-        return of_point(geometry::add(p, q));
+        return of_point(p + q);
     }
     if same(name, b"point_sub") {
-        return of_point(geometry::sub(p, q));
+        return of_point(p - q);
     }
     if same(name, b"point_distance_squared") {
-        return Answer::Single(geometry::distance_squared(p, q));
+        return Answer::Single(p.distance_squared(q));
     }
     point_product(name, p, q)
 }

@@ -15,4 +15,4 @@ unit v = ap (λ (l : Float). scale_of (point v.y (neg v.x)) (one ⊘ l)) (turned
 
 pub returns : goal.returns
 unfolding arc_points_of
-returns c = rw (← c.sub-start_vector.ensures, unit c.sub-start_vector.result, ← c.add-circle_end.ensures, ← c.length-radius.ensures, ← c.scale-start_tangent.ensures, ← c.normalize-end_tangent.ensures, ← c.scale.ensures, ← c.scale-first.ensures, ← c.scale-2.ensures, ← c.scale-second.ensures, ← c.add-control1.ensures, ← c.add-control2.ensures)
+returns c = rw (← c.sub-start_vector.ensures, unit c.sub-start_vector.result, ← c.add-circle_end.ensures, ← c.length-radius.ensures, ← c.mul-start_tangent.ensures, ← c.normalize-end_tangent.ensures, ← c.mul.ensures, ← c.mul-first.ensures, ← c.mul-2.ensures, ← c.mul-second.ensures, ← c.add-control1.ensures, ← c.add-control2.ensures)

@@ -3,7 +3,7 @@ use Rattle.arcs.proofs.intersection.Goals as goal
 
 pub returns-then-abs : goal.returns-then-abs
 unfolding intersection_of
-returns-then-abs c = rw (← c.abs.ensures, c.if-abs.true, ← c.add.ensures, ← c.shrink.ensures)
+returns-then-abs c = rw (← c.abs.ensures, c.if-abs.true, ← c.add.ensures, ← c.div.ensures)
 
 pub returns : goal.returns
 unfolding intersection_of

@@ -3,4 +3,4 @@ use Rattle.conic.proofs.conic_mid.Goals as goal
 
 pub returns : goal.returns
 unfolding conic_mid
-returns c = rw (← c.scale.ensures, ← c.add.ensures, ← c.add-sum.ensures, ← c.shrink.ensures)
+returns c = rw (← c.mul.ensures, ← c.add.ensures, ← c.add-sum.ensures, ← c.div.ensures)

@@ -3,4 +3,4 @@ use Rattle.conic.proofs.quad_mid.Goals as goal
 
 pub returns : goal.returns
 unfolding quad_mid
-returns c = rw (← c.scale.ensures, ← c.add.ensures, ← c.add-sum.ensures, ← c.scale-2.ensures)
+returns c = rw (← c.mul.ensures, ← c.add.ensures, ← c.add-sum.ensures, ← c.mul-2.ensures)

@@ -3,4 +3,4 @@ use Rattle.conic.proofs.subdivide.Goals as goal
 
 pub returns : goal.returns
 unfolding split_of
-returns c = rw (← c.scale-weighted.ensures, ← c.add.ensures, ← c.scale-left_ctrl.ensures, ← c.add-2.ensures, ← c.scale-right_ctrl.ensures, ← c.scale.ensures, ← c.add-3.ensures, ← c.add-sum.ensures, ← c.scale-mid.ensures)
+returns c = rw (← c.mul-weighted.ensures, ← c.add.ensures, ← c.mul-left_ctrl.ensures, ← c.add-2.ensures, ← c.mul-right_ctrl.ensures, ← c.mul.ensures, ← c.add-3.ensures, ← c.add-sum.ensures, ← c.mul-mid.ensures)

@@ -7,4 +7,4 @@ returns-then-norm_radius c = rw c.if-norm_radius.true
 
 pub returns : goal.returns
 unfolding forward_scale_of
-returns c = rw (c.if-norm_radius.false, ← c.shrink.ensures)
+returns c = rw (c.if-norm_radius.false, ← c.div.ensures)

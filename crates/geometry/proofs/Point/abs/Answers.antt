@@ -1,5 +1,5 @@
 use Rattle.geometry.specs.Point.{abs_point}
-use Rattle.geometry.proofs.abs.Goals as goal
+use Rattle.geometry.proofs.Point.abs.Goals as goal
 
 pub returns : goal.returns
 unfolding abs_point

@@ -1,5 +1,5 @@
 use Rattle.geometry.specs.Point.{finite_point}
-use Rattle.geometry.proofs.is_finite.Goals as goal
+use Rattle.geometry.proofs.Point.is_finite.Goals as goal
 
 pub returns-then-is_finite : goal.returns-then-is_finite
 unfolding finite_point

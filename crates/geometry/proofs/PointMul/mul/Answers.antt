@@ -1,6 +1,6 @@
 use Rattle.geometry.specs.Point.{mul_of}
 use mathlib.Core.Path.{refl}
-use Rattle.geometry.proofs.mul.Goals as goal
+use Rattle.geometry.proofs.PointMul.mul.Goals as goal
 
 pub returns : goal.returns
 unfolding mul_of

@@ -1,5 +1,5 @@
 use Rattle.geometry.specs.Point.{distance_squared_of}
-use Rattle.geometry.proofs.distance_squared.Goals as goal
+use Rattle.geometry.proofs.Point.distance_squared.Goals as goal
 
 pub returns : goal.returns
 unfolding distance_squared_of

@@ -1,5 +1,5 @@
 use Rattle.geometry.specs.Point.{length_of}
-use Rattle.geometry.proofs.length.Goals as goal
+use Rattle.geometry.proofs.Point.length.Goals as goal
 
 pub returns : goal.returns
 unfolding length_of

@@ -1,6 +1,6 @@
 use Rattle.geometry.specs.Point.{div_of}
 use mathlib.Core.Path.{refl}
-use Rattle.geometry.proofs.div.Goals as goal
+use Rattle.geometry.proofs.PointDiv.div.Goals as goal
 
 pub returns : goal.returns
 unfolding div_of
