@@ -5,15 +5,17 @@ use mathlib.Core.Bool.{Bool, true, false, cond}
 use Prim.Native.Nat.{ℕ}
 use native.Mathlib.Omega.{arith}
 use lib.ListN.{length}
+use lib.Ieee.{Float}
 use Rattle.std.specs.Prelude.{⊤}
 use Rattle.std.proofs.Common.{Result, Ok, Err}
 use Rattle.stream.specs.declared.Builder.{Builder}
 use Rattle.stream.specs.declared.Need.{Need}
 use Rattle.stream.specs.Stream.{State, state, bad_record, has_room, bad_state, room_for, need_of, push_all}
+use Rattle.lowering.specs.declared.Written.{Written}
 use Rattle.lowering.specs.Entries.{Entry, elements_of, joint_word}
 use Rattle.calls.specs.declared.BuildError.{BuildError}
 use Rattle.calls.specs.declared.BuildError.TheVariants.{BadRecord, NoRoom}
-use Rattle.calls.specs.Calls.{outcome, attempt, admit_of, refusal_of}
+use Rattle.calls.specs.Calls.{outcome, attempt, admit_of, refusal_of, outcome_of, conic_outcome_of}
 
 -- what holds where a need is admitted
 pub record Admitted (b : Builder) (vn fn : ℕ) (n : Need) : Type 0 where
@@ -49,6 +51,13 @@ module _ (s : State) (es : List Entry) where
   pub done-is : (t : State) → Admitted s.builder (length s.verbs) (length s.floats) (need_of (elements_of es)) → t ≡ push_all s (elements_of es) → outcome 0 (joint_word es) t ≡ attempt s es
   unfolding attempt
   done-is t h e = ap (outcome 0 (joint_word es)) e ∙ rw (h.good, h.room)
+
+-- a refusal that is passed on
+pub passed_on : (r : Result Builder BuildError) (e : BuildError) (vs : List ℕ) (fs : List Float) → r ≡ Err e → outcome_of r vs fs ≡ refusal_of e vs fs
+passed_on r e vs fs h = ap (λ (x : Result Builder BuildError). outcome_of x vs fs) h
+
+pub conic_passed_on : (r : Result Written BuildError) (e : BuildError) (vs : List ℕ) (fs : List Float) → r ≡ Err e → conic_outcome_of r vs fs ≡ refusal_of e vs fs
+conic_passed_on r e vs fs h = ap (λ (x : Result Written BuildError). conic_outcome_of x vs fs) h
 
 -- a need that is that of es
 pub admitted_for : (b : Builder) (x : ⊤) (vn fn : ℕ) (n : Need) (es ds : List Entry) {r : Result ⊤ BuildError} → n ≡ need_of (elements_of es) → es ≡ ds → r ≡ admit_of b vn fn n → r ≡ Ok x → Admitted b vn fn (need_of (elements_of ds))
