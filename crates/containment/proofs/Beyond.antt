@@ -13,7 +13,8 @@ use Rattle.octant.specs.Octant.{point}
 use Rattle.octant.specs.declared.Octant.{Octant}
 use Rattle.quadrant.specs.declared.Quadrant.{Quadrant}
 use Rattle.shape.specs.declared.RoundSuperellipse.{RoundSuperellipse}
-use Rattle.containment.specs.Contains.{octant_contains_of, square_corner, round_contains, norm_contains, corner_contains_of, contains_of}
+use Rattle.quadrant.specs.Quadrant.{square_corner}
+use Rattle.containment.specs.Contains.{octant_contains_of, round_contains, norm_contains, corner_contains_of, contains_of}
 use Rattle.containment.specs.Arcs.{beyond_circle, arcs_of, beyond_arcs, misses_of, arcs_in}
 use Rattle.containment.specs.declared.Arcs.{Arcs}
 

@@ -11,7 +11,8 @@ use Rattle.shape.specs.declared.Bounds.{Bounds}
 use Rattle.shape.specs.declared.CornerRadii.{CornerRadii}
 use Rattle.shape.specs.Shape.{same_point, all_same, one_quadrant, unequal_shape, shape_of}
 use Rattle.shape.specs.Refusal.{any_of, beyond_limit, point_beyond, bounds_beyond, radii_beyond, point_below, radii_below, inverted, made, new_of}
-use Rattle.containment.specs.Contains.{within, square_corner, square_contains, norm_contains, corner_contains_of, contains_of}
+use Rattle.quadrant.specs.Quadrant.{square_corner}
+use Rattle.containment.specs.Contains.{within, square_contains, norm_contains, corner_contains_of, contains_of}
 
 -- opens the float operations and the definitions of a shape with square corners at once
 unfoldable opened : Unit {0}

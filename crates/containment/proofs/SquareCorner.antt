@@ -5,7 +5,8 @@ use lib.Ieee.{Float, lt, eq}
 use Rattle.geometry.specs.declared.Point.{Point}
 use Rattle.octant.specs.Binary32.{◌⊕◌, ◌⊖◌, zero}
 use Rattle.quadrant.specs.declared.Quadrant.{Quadrant}
-use Rattle.containment.specs.Contains.{square_corner, within, square_contains, norm_contains}
+use Rattle.quadrant.specs.Quadrant.{square_corner}
+use Rattle.containment.specs.Contains.{within, square_contains, norm_contains}
 
 -- how far a point lies inside the right edge and the top edge
 abbrev pub x_delta : Quadrant → Point → Float

@@ -7,7 +7,7 @@ use Rattle.octant.specs.Binary32.{zero}
 use Rattle.octant.specs.Octant.{point}
 use Rattle.quadrant.specs.declared.Quadrant.{Quadrant}
 use Rattle.shape.specs.declared.RoundSuperellipse.{RoundSuperellipse}
-use Rattle.containment.specs.Contains.{square_corner}
+use Rattle.quadrant.specs.Quadrant.{square_corner}
 use Rattle.containment.specs.declared.Arcs.{Arcs}
 
 -- where `octant_contains_of` answers false by the circle: in the octant, past the circle's start, and not inside the circle; d is the squared distance from its center

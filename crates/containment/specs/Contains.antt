@@ -8,6 +8,7 @@ use Rattle.octant.specs.Binary32.{◌⊕◌, ◌⊖◌, zero, two}
 use Rattle.octant.specs.Octant.{point}
 use Rattle.octant.specs.declared.Octant.{Octant}
 use Rattle.quadrant.specs.declared.Quadrant.{Quadrant}
+use Rattle.quadrant.specs.Quadrant.{square_corner}
 use Rattle.shape.specs.declared.RoundSuperellipse.{RoundSuperellipse}
 
 -- octant_contains: inside the octant's arc: the superellipse's, its border included, as far as the circle starts, then the circle's, without its border; true for any point outside the octant
@@ -19,10 +20,6 @@ octant_contains_of param p =
     le (pow_of p_se.x param.se_n ⊕ pow_of p_se.y param.se_n) one)
     (let circle_radius = distance_squared_of param.circle_start param.circle_center in
     lt (length_squared_of (sub_of p param.circle_center)) circle_radius))
-
--- a degree below 2 on either side makes the corner square; a NaN is not below
-unfoldable pub square_corner : Quadrant → Bool
-square_corner param = lt param.top.se_n two || lt param.right.se_n two
 
 -- inside an edge, or on one whose scale is negative: the top and left borders belong to the shape
 unfoldable pub within : Float → Float → Bool

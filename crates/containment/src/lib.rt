@@ -8,7 +8,7 @@ ghost use Rattle.std.specs.Float.Ieee.{lt};
 ghost use Rattle.ieee.specs.Basic.{abs_of};
 ghost use Rattle.octant.specs.Binary32.{zero};
 ghost use Rattle.octant.specs.Octant.{point};
-ghost use Rattle.containment.specs.Contains.{octant_contains_of, within, square_contains, round_contains, square_corner, norm_contains, corner_contains_of, contains_of};
+ghost use Rattle.containment.specs.Contains.{octant_contains_of, within, square_contains, round_contains, norm_contains, corner_contains_of, contains_of};
 ghost use Rattle.containment.specs.Parts.{in_superellipse, asks_powers};
 ghost use Rattle.containment.specs.Arcs.{beyond_circle, arcs_of, beyond_arcs, misses_of, arcs_in};
 
@@ -101,20 +101,10 @@ fn round_contains(param: Quadrant, norm_point: Point) -> bool
     octant_contains(param.top, from_top) && octant_contains(param.right, flipped)
 }
 
-// A degree that is a NaN is round.
-pub fn is_square(param: Quadrant) -> bool
-    ensures { result ≡ square_corner param }
-{
-    if param.top.se_n < 2.0 {
-        return true;
-    }
-    param.right.se_n < 2.0
-}
-
 pub fn norm_contains(param: Quadrant, norm_point: Point) -> bool
     ensures { result ≡ norm_contains param norm_point }
 {
-    if is_square(param) {
+    if param.is_square() {
         return square_contains(param, norm_point);
     }
     round_contains(param, norm_point)
@@ -162,16 +152,10 @@ pub fn contains(shape: RoundSuperellipse, p: Point) -> bool
     if shape.all_corners_same {
         return corner_contains(shape.top_right, p, false);
     }
-    if corner_contains(shape.top_right, p, true) {
-        if corner_contains(shape.bottom_right, p, true) {
-            if corner_contains(shape.bottom_left, p, true) {
-                return corner_contains(shape.top_left, p, true);
-            }
-            return false;
-        }
-        return false;
-    }
-    false
+    corner_contains(shape.top_right, p, true)
+        && corner_contains(shape.bottom_right, p, true)
+        && corner_contains(shape.bottom_left, p, true)
+        && corner_contains(shape.top_left, p, true)
 }
 
 // What a corner's circular arcs ask of a point, for a quick test of many points: most points outside lie beyond an arc.
@@ -223,7 +207,7 @@ fn arcs_of(q: Quadrant) -> Arcs
             x: q.top.circle_start.distance_squared(q.top.circle_center),
             y: q.right.circle_start.distance_squared(q.right.circle_center),
         },
-        is_round: !is_square(q),
+        is_round: !q.is_square(),
     }
 }
 

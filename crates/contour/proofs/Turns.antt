@@ -22,7 +22,8 @@ use Rattle.calls.specs.declared.Call.TheVariants as call
 use Rattle.calls.specs.Calls.{entries_of}
 use Rattle.quadrant.specs.declared.Quadrant.{Quadrant}
 use Rattle.shape.specs.declared.RoundSuperellipse.{RoundSuperellipse}
-use Rattle.corners.specs.Corners.{square_corner, placed_conic, placed_cubic, forwards_calls, backwards_calls, octant_calls, square_calls, round_calls, corner_calls, equal_corners, unequal_corners, corners_of, start_point}
+use Rattle.quadrant.specs.Quadrant.{square_corner}
+use Rattle.corners.specs.Corners.{placed_conic, placed_cubic, forwards_calls, backwards_calls, octant_calls, square_calls, round_calls, corner_calls, equal_corners, unequal_corners, corners_of, start_point}
 use Rattle.corners.specs.declared.Corner.{Corner}
 use Rattle.corners.specs.declared.Corner.TheVariants.{Square, Round}
 use Rattle.corners.specs.declared.Outline.{Outline}

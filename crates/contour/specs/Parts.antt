@@ -10,7 +10,8 @@ use Rattle.calls.specs.declared.Call.{Call}
 use Rattle.calls.specs.declared.Call.TheVariants.{LineTo, ConicTo, CubicTo}
 use Rattle.quadrant.specs.declared.Quadrant.{Quadrant}
 use Rattle.shape.specs.declared.RoundSuperellipse.{RoundSuperellipse}
-use Rattle.corners.specs.Corners.{square_corner, corners_of, start_point}
+use Rattle.quadrant.specs.Quadrant.{square_corner}
+use Rattle.corners.specs.Corners.{corners_of, start_point}
 
 -- entries with v to v' verbs and p to p' points
 pub record Sized (es : List Entry) (v v' p p' : ℕ) : Type 0 where

@@ -8,6 +8,7 @@ use Rattle.octant.specs.Binary32.{◌⊘◌, zero, two}
 use Rattle.octant.specs.Octant.{point}
 use Rattle.octant.specs.declared.Octant.{Octant}
 use Rattle.quadrant.specs.declared.Quadrant.{Quadrant}
+use Rattle.quadrant.specs.Quadrant.{square_corner}
 use Rattle.shape.specs.declared.RoundSuperellipse.{RoundSuperellipse}
 use Rattle.arcs.specs.Conics.{superellipse_conics_of}
 use Rattle.arcs.specs.Circle.{circular_arc_points_of}
@@ -16,10 +17,6 @@ use Rattle.arcs.specs.declared.Placement.{Placement}
 use Rattle.calls.specs.declared.Call.{Call}
 use Rattle.calls.specs.declared.Call.TheVariants.{LineTo, ConicTo, CubicTo}
 use Rattle.corners.specs.declared.Curves.{Curves}
-
--- the degree test: a degree below 2 on either side makes the corner square; a NaN is not below
-unfoldable pub square_corner : Quadrant → Bool
-square_corner param = lt param.top.se_n two || lt param.right.se_n two
 
 -- what is drawn of an octant, in its own space: the circular arc's four points and the two conics of the superellipse's arc
 unfoldable pub curves_of : Octant → Curves

@@ -6,7 +6,8 @@
 ghost use Rattle.std.specs.Prelude.{◌≡◌, true, false, ◌||◌};
 ghost use Rattle.geometry.specs.Point.{one, mul_of};
 ghost use Rattle.octant.specs.Octant.{point};
-ghost use Rattle.corners.specs.Corners.{square_corner, curves_of, placement_of, placed_conic, placed_cubic, forwards_calls, backwards_calls, next_of, square_calls, round_calls, solved_calls, corner_calls, equal_corners, unequal_corners, corners_of, start_point};
+ghost use Rattle.quadrant.specs.Quadrant.{square_corner};
+ghost use Rattle.corners.specs.Corners.{curves_of, placement_of, placed_conic, placed_cubic, forwards_calls, backwards_calls, next_of, square_calls, round_calls, solved_calls, corner_calls, equal_corners, unequal_corners, corners_of, start_point};
 ghost use Rattle.corners.specs.Calls.{conic_call, cubic_call, calls_forwards, calls_backwards, calls_of, call_lists, drawing_of, outline_of};
 
 use arcs::{Placement, SuperellipseConics};
@@ -85,16 +86,6 @@ pub struct Corners {
 pub struct Outline {
     pub start: Point,
     pub corners: Corners,
-}
-
-// A degree that is a NaN is round.
-fn is_square(param: Quadrant) -> bool
-    ensures { result ≡ square_corner param }
-{
-    if param.top.se_n < 2.0 {
-        return true;
-    }
-    param.right.se_n < 2.0
 }
 
 fn solve(top: Octant, right: Octant) -> BothCurves
@@ -227,7 +218,7 @@ fn draw_corner(param: Quadrant, reverse: bool, scale_sign: Point) -> Corner
     ensures { calls_of result ≡ corner_calls param reverse scale_sign }
 {
     let scale = param.signed_scale * scale_sign;
-    if is_square(param) {
+    if param.is_square() {
         return square_corner(param, reverse, scale);
     }
     let solved = solve(param.top, param.right);
@@ -244,7 +235,7 @@ fn equal_corners(tr: Quadrant) -> Corners
     let scale2 = tr.signed_scale * Point { x: 1.0, y: -1.0 };
     let scale3 = tr.signed_scale * Point { x: -1.0, y: -1.0 };
     let scale4 = tr.signed_scale * Point { x: -1.0, y: 1.0 };
-    if is_square(tr) {
+    if tr.is_square() {
         return Corners {
             first: square_corner(tr, false, scale1),
             second: square_corner(tr, true, scale2),
@@ -350,16 +341,10 @@ fn draw_apart(shape: RoundSuperellipse) -> Corners
 fn any_square(shape: RoundSuperellipse) -> bool
     ensures { result ≡ square_corner shape.top_right || square_corner shape.bottom_right || square_corner shape.bottom_left || square_corner shape.top_left }
 {
-    if is_square(shape.top_right) {
-        return true;
-    }
-    if is_square(shape.bottom_right) {
-        return true;
-    }
-    if is_square(shape.bottom_left) {
-        return true;
-    }
-    is_square(shape.top_left)
+    shape.top_right.is_square()
+        || shape.bottom_right.is_square()
+        || shape.bottom_left.is_square()
+        || shape.top_left.is_square()
 }
 
 // A square corner has no curves, so that there is none to keep step with.

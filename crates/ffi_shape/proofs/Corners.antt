@@ -9,7 +9,8 @@ use lib.Ieee.{Float, nan, eq, ne}
 use Rattle.geometry.specs.declared.Point.{Point}
 use Rattle.octant.specs.Binary32 as binary32
 use Rattle.quadrant.specs.declared.Quadrant.{Quadrant}
-use Rattle.containment.specs.Contains.{square_corner, round_contains, norm_contains, corner_contains_of, contains_of}
+use Rattle.quadrant.specs.Quadrant.{square_corner}
+use Rattle.containment.specs.Contains.{round_contains, norm_contains, corner_contains_of, contains_of}
 use Rattle.ffi_shape.specs.Layout.{quadrant_at, shape_at}
 use Rattle.ffi_shape.specs.Making.{corners_hold, holds_of}
 

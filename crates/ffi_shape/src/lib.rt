@@ -239,7 +239,7 @@ fn same_holds(shape: &[f32], p: Point) -> bool
 {
     let corner = quadrant_at(shape, 0);
     let n = norm_point(shape, 0, p).abs();
-    if containment::is_square(corner) {
+    if corner.is_square() {
         return norm_holds(shape, 0, n.x, n.y);
     }
     octants_hold(shape, n)

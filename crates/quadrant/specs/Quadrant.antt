@@ -1,6 +1,6 @@
 -- The Rust's `compute_quadrant` and `split`, in its order. Definitions only.
-use Rattle.std.specs.Prelude.{Bool, cond, ◌&&◌, Float}
-use Rattle.std.specs.Float.Ieee.{neg, eq, ne}
+use Rattle.std.specs.Prelude.{Bool, cond, ◌&&◌, ◌||◌, Float}
+use Rattle.std.specs.Float.Ieee.{neg, eq, ne, lt}
 use Rattle.ieee.specs.Basic.{abs_of, min_of}
 use Rattle.geometry.specs.declared.Point.{Point}
 use Rattle.geometry.specs.Point.{one, sub_of, div_of, shrink_of, abs_point}
@@ -79,3 +79,7 @@ unfoldable pub split_of : Float → Float → Float → Float → Float
 split_of low high ratio_low ratio_high =
     cond (both_zero ratio_low ratio_high) ((low ⊕ high) ⊘ two)
     ((low ⊗ ratio_high ⊕ high ⊗ ratio_low) ⊘ (ratio_low ⊕ ratio_high))
+
+-- a degree below 2 on either side makes the corner square; a NaN is not below
+unfoldable pub square_corner : Quadrant → Bool
+square_corner param = lt param.top.se_n two || lt param.right.se_n two

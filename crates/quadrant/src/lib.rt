@@ -5,7 +5,7 @@
 
 ghost use Rattle.std.specs.Prelude.{◌≡◌, true};
 ghost use Rattle.octant.specs.Octant.{compute_octant_of};
-ghost use Rattle.quadrant.specs.Quadrant.{forward_scale_of, or_sign_of, frame_of, top_offset_of, right_offset_of, solved_of, compute_quadrant_of, both_zero, split_of};
+ghost use Rattle.quadrant.specs.Quadrant.{forward_scale_of, or_sign_of, frame_of, top_offset_of, right_offset_of, solved_of, compute_quadrant_of, both_zero, split_of, square_corner};
 
 use geometry::Point;
 use octant::{Octant, Octants};
@@ -17,6 +17,15 @@ pub struct Quadrant {
     pub signed_scale: Point,
     pub top: Octant,
     pub right: Octant,
+}
+
+impl Quadrant {
+    // A degree that is a NaN is round.
+    pub fn is_square(self) -> bool
+        ensures { result ≡ square_corner self }
+    {
+        self.top.se_n < 2.0 || self.right.se_n < 2.0
+    }
 }
 
 // A zero radius stretches nothing.

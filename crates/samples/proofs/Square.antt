@@ -10,7 +10,8 @@ use Rattle.shape.specs.Shape.{same_point, all_same, one_quadrant, unequal_shape,
 use Rattle.stream.specs.Stream.{start_after, pen_after}
 use Rattle.lowering.specs.Entries.{elements_of}
 use Rattle.calls.specs.Calls.{entries_of}
-use Rattle.corners.specs.Corners.{square_corner, next_of, square_calls, corner_calls, equal_corners, unequal_corners, corners_of, start_point}
+use Rattle.quadrant.specs.Quadrant.{square_corner}
+use Rattle.corners.specs.Corners.{next_of, square_calls, corner_calls, equal_corners, unequal_corners, corners_of, start_point}
 use Rattle.corners.specs.Calls.{outline_of, calls_in, outline_calls}
 use Rattle.contour.specs.Entries.{entries_along, outline_entries}
 use Rattle.samples.specs.Samples.{shape, square_outline}

@@ -1,6 +1,7 @@
 use mathlib.Core.Path.{sym, ◌∙◌}
 use Rattle.ieee.proofs.Tests.{none_of_four}
-use Rattle.corners.specs.Corners.{square_corner, corner_calls, unequal_corners}
+use Rattle.quadrant.specs.Quadrant.{square_corner}
+use Rattle.corners.specs.Corners.{corner_calls, unequal_corners}
 use Rattle.corners.proofs.unequal_corners.Goals as goal
 
 pub returns : goal.returns
