@@ -1,4 +1,3 @@
 pub mod Basic
-pub mod Cubic
 pub mod Narrow
 pub mod Sqrt

@@ -1,9 +1,7 @@
-// Operations of IEEE 754 that the language lacks: the changes of width, the square root, and the
-// simple ones that document 01 names. Nothing is cast with loss; every public function is total.
+// Operations of IEEE 754: the changes of width, the square root, and the simple ones that document 01
+// names. Nothing is cast with loss; every public function is total.
 
 #![tactic(auto)]
-
-mod cubic;
 
 ghost use Rattle.std.specs.Prelude.{◌≡◌, ℕ, ◌+◌, ◌-◌, ◌*◌, ◌/◌, ◌%◌, ◌^◌, ◌<◌, ◌≤◌, true, to_bits};
 ghost use Rattle.std.specs.Float.Ieee.Nearest.{closest};
@@ -11,7 +9,7 @@ ghost use Rattle.std.specs.Float.Ieee.Scale.{finite};
 ghost use Rattle.std.specs.Float.{binary32};
 ghost use Rattle.ieee.specs.Basic.{widen_of, abs_of, min_of, max_of, clamp_of};
 ghost use Rattle.ieee.specs.Narrow.{narrow_of, pattern_of, regular};
-ghost use Rattle.ieee.specs.Sqrt.{root_of, sqrt_of};
+ghost use Rattle.ieee.specs.Sqrt.{sqrt_of};
 
 pub fn widen(x: f32) -> f64
     ensures { result ≡ widen_of x }
@@ -34,15 +32,6 @@ pub fn abs(x: f32) -> f32
         return x;
     }
     f32::from_bits(f32::to_bits(x) % 0x8000_0000)
-}
-
-pub fn abs_f64(x: f64) -> f64
-    ensures { result ≡ abs_of x }
-{
-    if x != x {
-        return x;
-    }
-    f64::from_bits(f64::to_bits(x) % 0x8000_0000_0000_0000)
 }
 
 pub fn min(a: f32, b: f32) -> f32
@@ -157,112 +146,9 @@ pub fn narrow_regular(x: f64) -> f32
     f32::from_bits(((bits >> 63) * 0x8000_0000 + p) as u32)
 }
 
-// c * t / 2^25, for the cubics.
-fn along(c: u64, t: u64) -> u64
-    requires { (c < 2 ^ 33) × (t < 2 ^ 18) }
-    ensures { result < 2 ^ 26 }
-{
-    (c * t) >> 25
-}
-
-// c * t^2 / 2^25, for the cubics. The square does not wait for c.
-fn bent(c: u64, t: u64) -> u64
-    requires { (c < 2 ^ 32) × (t < 2 ^ 18) }
-    ensures { result < 2 ^ 43 }
-{
-    let square = (t * t) >> 12;
-    (c * square) >> 13
-}
-
-// A guess at the root of d * 2^24, or of d * 2^23 where `odd` is 1. No proof rests on its being near:
-// `round_root` tests it, and mends it by steps of 1.
-fn root_guess(d: u64, odd: u64) -> u64
-    requires { odd < 2 }
-    ensures { result < 2 ^ 25 }
-{
-    let i = odd * 32 + (d >> 18) % 32;
-    let t = d % 0x4_0000;
-    let c = cubic::cubic_at(i);
-    let bend = c.2 - along(c.3, t);
-    (c.0 + c.1 * t - bent(bend, t)) >> 32
-}
-
-// The first whole number from r on that is no longer too low for the root of w.
-fn raised(w: u64, r: u64) -> u64
-    requires { (w < 2 ^ 48) × (r * r + r < w) }
-    ensures { (result * result < w + result) × (w ≤ result * result + result) }
-{
-    let mut r = r;
-    while r * r + r < w {
-        r += 1;
-    }
-    r
-}
-
-// The first whole number from r down that is no longer too high for the root of w.
-fn lowered(w: u64, r: u64) -> u64
-    requires { (0 < w) × (w < 2 ^ 48) × (r < 2 ^ 25) × (w + r ≤ r * r) }
-    ensures { (result * result < w + result) × (w ≤ result * result + result) }
-{
-    let mut r = r;
-    while r * r >= w + r {
-        r -= 1;
-    }
-    r
-}
-
-// The root of w to the nearest whole number, from a guess: it is never half way between two. The guess
-// is right for the 2 * guess numbers w up to `top`, which one test tells.
-fn round_root(w: u64, guess: u64) -> u64
-    requires { (0 < w) × (w < 2 ^ 48) × (guess < 2 ^ 25) }
-    ensures { (result * result < w + result) × (w ≤ result * result + result) }
-{
-    let top = guess * guess + guess;
-    if std::num::wrapping_sub_u64(top, w) < 2 * guess {
-        return guess;
-    }
-    if top < w {
-        return raised(w, guess);
-    }
-    lowered(w, guess)
-}
-
-// The pattern of the f32 nearest to the root of d * 2^(f - 174).
-fn rooted(d: u64, f: u64) -> u32
-    requires { (2 ^ 23 ≤ d) × (d < 2 ^ 24) × (f < 300) }
-    ensures { result ≡ to_bits binary32 (root_of binary32 (d * 2 ^ (f + 124)) (2 ^ 298)) }
-{
-    let odd = f % 2;
-    let r = round_root(d << (24 - odd), root_guess(d, odd));
-    ((f + 101) / 2 * 0x80_0000 + r) as u32
-}
-
-// The positive normal numbers, the usual case, are told first, by one test of their range.
+// The language's own root, which the definition here says in whole numbers.
 pub fn sqrt(x: f32) -> f32
     ensures { result ≡ sqrt_of binary32 x }
 {
-    if x != x {
-        return 0.0 / 0.0;
-    }
-    let bits: u32 = f32::to_bits(x);
-    if std::num::wrapping_sub_u32(bits, 0x80_0000) < 0x7f00_0000 {
-        return f32::from_bits(rooted(
-            (bits % 0x80_0000 + 0x80_0000) as u64,
-            (bits / 0x80_0000 + 24) as u64,
-        ));
-    }
-    if bits >= 0x8000_0000 {
-        if bits == 0x8000_0000 {
-            return x;
-        }
-        return 0.0 / 0.0;
-    }
-    if bits >= 0x7f80_0000 {
-        return x;
-    }
-    if bits == 0 {
-        return x;
-    }
-    let z: u32 = u32::leading_zeros(bits) - 8;
-    f32::from_bits(rooted((bits << z) as u64, (25 - z) as u64))
+    x.sqrt()
 }

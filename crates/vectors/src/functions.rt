@@ -21,7 +21,7 @@ fn one_double(name: &[u8], x: f64) -> Answer {
     if same(name, b"narrow") {
         return Answer::Single(ieee::narrow(x));
     }
-    Answer::Double(ieee::abs_f64(x))
+    Answer::Double(x.abs())
 }
 
 fn elementary_of_one(name: &[u8], x: f32) -> Answer {
