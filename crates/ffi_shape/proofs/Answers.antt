@@ -4,10 +4,12 @@ use mathlib.Core.List.{List}
 use borrow.Author.Tests.{eq-eqb, ne_eqb}
 use lib.ListN.{length}
 use lib.Ieee.{Float}
-use Rattle.shape.specs.declared.Answer.{Answer}
+use Rattle.std.proofs.Common.{Result}
 use Rattle.shape.specs.declared.Bounds.{Bounds}
 use Rattle.shape.specs.declared.CornerRadii.{CornerRadii}
 use Rattle.shape.specs.Refusal.{outcome_of, new_of}
+use Rattle.shape.specs.declared.RoundSuperellipse.{RoundSuperellipse}
+use Rattle.shape.specs.declared.ShapeError.{ShapeError}
 use Rattle.ffi_shape.specs.Layout.{bounds_at, radii_at}
 use Rattle.ffi_shape.specs.Making.{left, left_by, make_of}
 
@@ -21,7 +23,7 @@ module _ (sizes old : List Float) where
   wrong_shape e h = rw (eq-eqb (length sizes) 12 e, ne_eqb (length old) 89 h)
 
   -- an answer to the bounds and the radii in the 12 floats
-  pub made_as : (b : Bounds) (r : CornerRadii) (a x : Answer) → length sizes ≡ 12 → length old ≡ 89 → b ≡ bounds_at sizes → r ≡ radii_at sizes → outcome_of a ≡ new_of b r → a ≡ x
+  pub made_as : (b : Bounds) (r : CornerRadii) (a x : Result RoundSuperellipse ShapeError) → length sizes ≡ 12 → length old ≡ 89 → b ≡ bounds_at sizes → r ≡ radii_at sizes → outcome_of a ≡ new_of b r → a ≡ x
       → left_by (outcome_of x) old ≡ make_of sizes old
   unfolding make_of
   made_as b r a x e f eb er ea ex = rw (eq-eqb (length sizes) 12 e, eq-eqb (length old) 89 f, ← eb, ← er, ← ea, ex)

@@ -15,7 +15,7 @@ ghost use Rattle.ffi_shape.specs.Making.{left, make_of, corners_hold, holds_of};
 use geometry::Point;
 use octant::Octant;
 use quadrant::Quadrant;
-use shape::{Answer, Bounds, CornerRadii, RoundSuperellipse};
+use shape::{Bounds, CornerRadii, RoundSuperellipse};
 
 // How many floats a shape is made of, and how many it is.
 const SIZES_LENGTH: usize = 12;
@@ -150,6 +150,7 @@ fn radii_at(sizes: &[f32]) -> CornerRadii
 
 // Makes a shape of min, max and the radii top left, top right, bottom left, bottom right, into 89
 // floats. 0, or document 01's number; the shape's floats change only with a 0.
+#[tactic(auto, using(crate::proofs::Answers::wrong_sizes, crate::proofs::Answers::wrong_shape))]
 pub fn shackletongue_shape(sizes: &[f32], shape: &mut [f32]) -> u32
     ensures { left result shape.new ≡ make_of sizes.now shape.old }
 {
@@ -160,13 +161,11 @@ pub fn shackletongue_shape(sizes: &[f32], shape: &mut [f32]) -> u32
         return WRONG_LENGTH;
     }
     match RoundSuperellipse::new(bounds_at(sizes), radii_at(sizes)) {
-        Answer::Made(s) => {
+        Ok(s) => {
             store_shape(shape, s);
             0
         }
-        Answer::BeyondLimit => 2,
-        Answer::NegativeRadius => 3,
-        Answer::Inverted => 4,
+        Err(error) => u32::from(error.number()),
     }
 }
 
@@ -248,10 +247,7 @@ fn same_holds(shape: &[f32], p: Point) -> bool
 fn number(b: bool) -> u32
     ensures { result ≡ cond b 1 0 }
 {
-    if b {
-        return 1;
-    }
-    0
+    u32::from(b)
 }
 
 // 1 where the shape contains the point, 0 where not.

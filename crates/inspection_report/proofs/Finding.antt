@@ -11,8 +11,8 @@ use Rattle.geometry.specs.declared.Point.{Point}
 use Rattle.panel_file.specs.declared.Record.{Record}
 use Rattle.panel_file.specs.declared.Record.TheVariants.{Button as ButtonRecord, Touch as TouchRecord}
 use Rattle.panel_file.specs.declared.Button.{Button}
-use Rattle.shape.specs.declared.Answer.{Answer}
-use Rattle.shape.specs.declared.Answer.TheVariants.{Made}
+use Rattle.std.proofs.Common.{Result, Ok}
+use Rattle.shape.specs.declared.ShapeError.{ShapeError}
 use Rattle.shape.specs.declared.RoundSuperellipse.{RoundSuperellipse}
 use Rattle.shape.specs.Refusal.{outcome_of, refused}
 use Rattle.touch.specs.Touch.{shape_of}
@@ -23,22 +23,6 @@ use Rattle.report_line.specs.Line.{line_of}
 use Rattle.report_line.proofs.Writing.{one_line}
 use Rattle.report_line.specs.Text.{text_of, Over}
 use Rattle.inspection_report.specs.Findings.{finding_of, finding, findings_at, next_index, findings_of}
-
--- ---- a button
-
-module _ (index : ℕ) (b : Button) (a : Answer) where
-  module _ (s : RoundSuperellipse) (x : Bool) (told : outcome_of a ≡ shape_of b) (e : a ≡ Made s) (k : x ≡ consistent_of (record { min = b.min; max = b.max }) s) where
-    pub finding_consistent : x ≡ true → Consistent index ≡ finding index b
-    unfolding finding finding_of outcome_of
-    finding_consistent t = rw (← told, e, ← k, t)
-
-    pub finding_apart : x ≡ false → Apart index ≡ finding index b
-    unfolding finding finding_of outcome_of
-    finding_apart t = rw (← told, e, ← k, t)
-
-  pub finding-refused : (n : ℕ) → outcome_of a ≡ shape_of b → outcome_of a ≡ refused n → Refused index n ≡ finding index b
-  unfolding finding finding_of
-  finding-refused n told e = rw (← told, e)
 
 -- ---- the records one after the other
 

@@ -11,13 +11,14 @@ ghost use Rattle.inspection_report.specs.Findings.{finding, findings_at, next_in
 
 use panel_file::{Button, Checked, Read, Record};
 use report_line::Line;
-use shape::{Answer, Bounds};
+use shape::Bounds;
 
+#[tactic(auto, unfolding(crate::specs::Findings::finding, crate::specs::Findings::finding_of, shape::specs::Refusal::outcome_of))]
 fn finding_line(index: usize, button: Button) -> Line
     ensures { result ≡ finding index button }
 {
     match touch::shape_of(button) {
-        Answer::Made(shape) => {
+        Ok(shape) => {
             let min = button.min;
             let max = button.max;
             if inspection::is_consistent(Bounds { min, max }, shape) {
@@ -25,9 +26,7 @@ fn finding_line(index: usize, button: Button) -> Line
             }
             Line::Apart(index)
         }
-        Answer::BeyondLimit => Line::Refused(index, 2),
-        Answer::NegativeRadius => Line::Refused(index, 3),
-        Answer::Inverted => Line::Refused(index, 4),
+        Err(error) => Line::Refused(index, usize::from(error.number())),
     }
 }
 

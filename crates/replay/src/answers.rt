@@ -4,7 +4,7 @@ use geometry::Point;
 use outline::BuildingCall;
 use reader::{Bounded, Extent, Reading};
 use replies::Reply;
-use shape::Answer;
+use shape::{RoundSuperellipse, ShapeError};
 use std::io;
 use stream::Builder;
 
@@ -76,22 +76,19 @@ pub fn write_built(rt: &impl Print, call: BuildingCall, a: ConicBuilt) -> io::Re
 }
 
 // Why there is no shape.
-pub fn write_no_shape(rt: &impl Print, a: Answer) -> io::Result<()> {
-    match a {
-        Answer::Made(_) => Ok(()),
-        Answer::BeyondLimit => write(rt, Reply::Refused(2)),
-        Answer::NegativeRadius => write(rt, Reply::Refused(3)),
-        Answer::Inverted => write(rt, Reply::Refused(4)),
-    }
+pub fn write_no_shape(rt: &impl Print, error: ShapeError) -> io::Result<()> {
+    write(rt, Reply::Refused(u64::from(error.number())))
 }
 
 // Whether the shape contains the point, or why there is no shape.
-pub fn write_contains(rt: &impl Print, a: Answer, p: Point) -> io::Result<()> {
-    let Answer::Made(s) = a else {
-        return write_no_shape(rt, a);
-    };
-    if containment::contains(s, p) {
-        return write(rt, Reply::Yes);
+pub fn write_contains(
+    rt: &impl Print,
+    made: Result<RoundSuperellipse, ShapeError>,
+    p: Point,
+) -> io::Result<()> {
+    match made {
+        Ok(shape) if containment::contains(shape, p) => write(rt, Reply::Yes),
+        Ok(_) => write(rt, Reply::No),
+        Err(error) => write_no_shape(rt, error),
     }
-    write(rt, Reply::No)
 }

@@ -5,7 +5,7 @@ use items::Item;
 use outline::BuildingCall;
 use reader::{Cursor, Reading, Segment};
 use replies::Reply;
-use shape::{Answer, RoundSuperellipse};
+use shape::{RoundSuperellipse, ShapeError};
 use std::io;
 use stream::Builder;
 
@@ -215,12 +215,12 @@ fn set_builder(s: Session, b: Builder) -> Session {
     s
 }
 
-fn refuse_shape(rt: &impl Print, s: Session, a: Answer) -> io::Result<Session> {
+fn refuse_shape(rt: &impl Print, s: Session, error: ShapeError) -> io::Result<Session> {
     let kind = s.kind;
     let Kind::List = kind else {
         return bad_line(rt, s);
     };
-    answers::write_no_shape(rt, a)?;
+    answers::write_no_shape(rt, error)?;
     Ok(s)
 }
 
@@ -252,14 +252,14 @@ fn build(
 fn build_outline(
     rt: &impl Print,
     s: Session,
-    a: Answer,
+    made: Result<RoundSuperellipse, ShapeError>,
     verbs: &mut [u8],
     floats: &mut [f32],
 ) -> io::Result<Session> {
-    let Answer::Made(shape) = a else {
-        return refuse_shape(rt, s, a);
-    };
-    build(rt, s, BuildingCall::AddTo(shape), verbs, floats)
+    match made {
+        Ok(shape) => build(rt, s, BuildingCall::AddTo(shape), verbs, floats),
+        Err(error) => refuse_shape(rt, s, error),
+    }
 }
 
 fn set_record(rt: &impl Print, s: Session, b: Builder) -> io::Result<Session> {

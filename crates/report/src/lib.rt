@@ -13,20 +13,19 @@ ghost use Rattle.report.specs.Lines.{line_for, passed, Placed};
 
 use panel_file::{Counts, Read, Record};
 use report_line::Line;
-use shape::Answer;
+use shape::{RoundSuperellipse, ShapeError};
 use touch::{NOWHERE, TouchedAll};
 
-fn shape_line(index: usize, answer: Answer) -> Line
-    ensures { result ≡ shape_line index (outcome_of answer) }
+#[tactic(auto, unfolding(crate::specs::Report::shape_line, crate::specs::Report::drawn, shape::specs::Refusal::outcome_of))]
+fn shape_line(index: usize, made: Result<RoundSuperellipse, ShapeError>) -> Line
+    ensures { result ≡ shape_line index (outcome_of made) }
 {
-    match answer {
-        Answer::Made(shape) => {
+    match made {
+        Ok(shape) => {
             let need = contour::need(shape);
             Line::Shape(index, need.verbs, need.points)
         }
-        Answer::BeyondLimit => Line::Refused(index, 2),
-        Answer::NegativeRadius => Line::Refused(index, 3),
-        Answer::Inverted => Line::Refused(index, 4),
+        Err(error) => Line::Refused(index, usize::from(error.number())),
     }
 }
 

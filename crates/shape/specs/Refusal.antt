@@ -1,5 +1,5 @@
 -- What making a shape answers: document 01's causes 2, 3 and 4, the lower number first, or the shape. Definitions only.
-use Rattle.std.specs.Prelude.{ℕ, Bool, cond, not, ◌||◌, Float}
+use Rattle.std.specs.Prelude.{ℕ, Bool, cond, not, ◌||◌, Float, Result, Ok, Err}
 use Rattle.std.specs.Float.{binary32}
 use Rattle.std.specs.Float.Ieee.{of_bits, lt}
 use Rattle.std.specs.Float.Ieee.Scale.{finite}
@@ -7,11 +7,11 @@ use Rattle.ieee.specs.Basic.{abs_of}
 use Rattle.geometry.specs.declared.Point.{Point}
 use Rattle.octant.specs.Binary32.{zero}
 use Rattle.shape.specs.Shape.{shape_of}
-use Rattle.shape.specs.declared.Answer.{Answer}
-use Rattle.shape.specs.declared.Answer.TheVariants.{Made, BeyondLimit, NegativeRadius, Inverted}
 use Rattle.shape.specs.declared.Bounds.{Bounds}
 use Rattle.shape.specs.declared.CornerRadii.{CornerRadii}
 use Rattle.shape.specs.declared.RoundSuperellipse.{RoundSuperellipse}
+use Rattle.shape.specs.declared.ShapeError.{ShapeError}
+use Rattle.shape.specs.declared.ShapeError.TheVariants.{BeyondLimit, NegativeRadius, Inverted}
 
 -- the largest magnitude that passes
 abbrev pub limit : Float
@@ -55,12 +55,16 @@ pub data Outcome : Type 0 where
   made : RoundSuperellipse → Outcome
   refused : ℕ → Outcome
 
--- each case of the answer as document 01 has it: the shape, or the cause's number
-unfoldable pub outcome_of : Answer → Outcome
-outcome_of (Made s) = made s
-outcome_of BeyondLimit = refused 2
-outcome_of NegativeRadius = refused 3
-outcome_of Inverted = refused 4
+-- document 01's number of each cause
+unfoldable pub number_of : ShapeError → ℕ
+number_of BeyondLimit = 2
+number_of NegativeRadius = 3
+number_of Inverted = 4
+
+-- the answer as document 01 has it: the shape, or the cause's number
+unfoldable pub outcome_of : Result RoundSuperellipse ShapeError → Outcome
+outcome_of (Ok s) = made s
+outcome_of (Err e) = refused (number_of e)
 
 -- the first cause that is met, the lower number first, or the shape
 unfoldable pub new_of : Bounds → CornerRadii → Outcome

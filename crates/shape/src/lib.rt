@@ -7,11 +7,13 @@ ghost use Rattle.std.specs.Prelude.{◌≡◌};
 ghost use Rattle.octant.specs.Octant.{point};
 ghost use Rattle.quadrant.specs.Quadrant.{frame_of, solved_of};
 ghost use Rattle.shape.specs.Shape.{all_same, one_quadrant, equal_shape, unequal_shape, shape_of};
-ghost use Rattle.shape.specs.Refusal.{any_of, beyond_limit, point_beyond, radii_beyond, bounds_beyond, point_below, radii_below, inverted, outcome_of, new_of};
+ghost use Rattle.shape.specs.Refusal.{any_of, beyond_limit, point_beyond, radii_beyond, bounds_beyond, point_below, radii_below, inverted, number_of, outcome_of, new_of};
 
 use geometry::Point;
 use quadrant::{Frame, Quadrant};
 use quadrants::FourFrames;
+use std::error::Error;
+use std::fmt;
 
 // The largest magnitude that a component of the bounds or the radii may have.
 const LIMIT: f32 = 16384.0;
@@ -40,14 +42,40 @@ pub struct RoundSuperellipse {
     pub all_corners_same: bool,
 }
 
-// What making a shape answers. The refusals are document 01's causes 2, 3 and 4.
-#[derive(Drop)]
-pub enum Answer {
-    Made(RoundSuperellipse),
+// Why bounds and radii make no shape.
+#[derive(Clone, Copy, Debug, PartialEq, Eq)]
+pub enum ShapeError {
     BeyondLimit,
     NegativeRadius,
     Inverted,
 }
+
+impl ShapeError {
+    // Document 01's number of the cause: the C interface and the programs write it.
+    #[tactic(auto, unfolding(crate::specs::Refusal::number_of))]
+    pub fn number(self) -> u8
+        ensures { result ≡ number_of self }
+    {
+        match self {
+            ShapeError::BeyondLimit => 2,
+            ShapeError::NegativeRadius => 3,
+            ShapeError::Inverted => 4,
+        }
+    }
+}
+
+impl fmt::Display for ShapeError {
+    fn fmt<W: fmt::Write>(&self, f: &mut fmt::Formatter<W>) -> fmt::Result {
+        f.write_str(match self {
+            ShapeError::BeyondLimit =>
+                "a bound or a radius is not finite, or over 16384 in magnitude",
+            ShapeError::NegativeRadius => "a radius is below zero",
+            ShapeError::Inverted => "max is below min on an axis",
+        })
+    }
+}
+
+impl Error for ShapeError {}
 
 fn all_same(radii: CornerRadii) -> bool
     ensures { result ≡ all_same radii }
@@ -207,21 +235,19 @@ fn is_inverted(bounds: Bounds) -> bool
 
 impl RoundSuperellipse {
     // The shape, or the first cause that the bounds and the radii give.
-    pub fn new(bounds: Bounds, radii: CornerRadii) -> Answer
+    #[tactic(auto, unfolding(crate::specs::Refusal::new_of, crate::specs::Refusal::number_of, crate::specs::Refusal::outcome_of))]
+    pub fn new(bounds: Bounds, radii: CornerRadii) -> Result<RoundSuperellipse, ShapeError>
         ensures { outcome_of result ≡ new_of bounds radii }
     {
-        if bounds_beyond(bounds) {
-            return Answer::BeyondLimit;
-        }
-        if radii_beyond(radii) {
-            return Answer::BeyondLimit;
+        if bounds_beyond(bounds) || radii_beyond(radii) {
+            return Err(ShapeError::BeyondLimit);
         }
         if radii_below(radii) {
-            return Answer::NegativeRadius;
+            return Err(ShapeError::NegativeRadius);
         }
         if is_inverted(bounds) {
-            return Answer::Inverted;
+            return Err(ShapeError::Inverted);
         }
-        Answer::Made(shape_of(bounds, radii))
+        Ok(shape_of(bounds, radii))
     }
 }

@@ -8,16 +8,17 @@
 
 mod fields;
 
-use shape::{Answer, RoundSuperellipse};
+use shape::{RoundSuperellipse, ShapeError};
 use std::io;
 use std::io::Read;
 
-fn put_answer(out: &mut [u8], a: Answer) -> usize {
-    match a {
-        Answer::Made(s) => fields::put_shape(out, s),
-        Answer::BeyondLimit => text::put(out, 0, b"refused 2"),
-        Answer::NegativeRadius => text::put(out, 0, b"refused 3"),
-        Answer::Inverted => text::put(out, 0, b"refused 4"),
+fn put_answer(out: &mut [u8], made: Result<RoundSuperellipse, ShapeError>) -> usize {
+    match made {
+        Ok(shape) => fields::put_shape(out, shape),
+        Err(error) => {
+            let n = text::put(out, 0, b"refused ");
+            text::put_decimal(out, n, u64::from(error.number()))
+        }
     }
 }
 

@@ -14,7 +14,7 @@ ghost use Rattle.touch.specs.Search.{points_in, marked, passes, next_index, look
 use containment::{Arcs, contains};
 use geometry::Point;
 use panel_file::{Button, Checked, Read, Record};
-use shape::{Answer, Bounds, CornerRadii, RoundSuperellipse};
+use shape::{Bounds, CornerRadii, RoundSuperellipse, ShapeError};
 
 // The most touches that a file of 65,536 bytes holds, and what stands for a touch that goes nowhere.
 pub const MOST_TOUCHES: usize = 5461;
@@ -39,7 +39,7 @@ pub enum TouchedAll {
 }
 
 // A button's shape, or why it has none.
-pub fn shape_of(button: Button) -> Answer
+pub fn shape_of(button: Button) -> Result<RoundSuperellipse, ShapeError>
     ensures { outcome_of result ≡ shape_of button }
 {
     let min = button.min;
@@ -119,15 +119,20 @@ fn mark(shape: RoundSuperellipse, index: u32, points: &[f32], results: &mut [u32
 
 // What making a shape answered is looked at for every touch: a refused shape takes none, but counts.
 // The answer is the next index.
-fn consider(answer: Answer, index: u32, points: &[f32], results: &mut [u32]) -> u32
+fn consider(
+    made: Result<RoundSuperellipse, ShapeError>,
+    index: u32,
+    points: &[f32],
+    results: &mut [u32],
+) -> u32
     requires { (index < 65536) × (length points.now ≡ 2 * length results.old) }
     ensures value { result ≡ index + 1 }
-    ensures results_after { results.new ≡ marked (takes (outcome_of answer)) index (points_in points.now) results.old }
+    ensures results_after { results.new ≡ marked (takes (outcome_of made)) index (points_in points.now) results.old }
 {
-    let Answer::Made(shape) = answer else {
-        return index + 1;
-    };
-    mark(shape, index, points, results);
+    match made {
+        Ok(shape) => mark(shape, index, points, results),
+        Err(_) => {}
+    }
     index + 1
 }
 
