@@ -10,13 +10,13 @@ use Rattle.quadrant.specs.Quadrant.{forward_scale_of, or_sign_of, compute_quadra
 use Rattle.shape.specs.declared.Bounds.{Bounds}
 use Rattle.shape.specs.declared.CornerRadii.{CornerRadii}
 use Rattle.shape.specs.Shape.{same_point, all_same, one_quadrant, unequal_shape, shape_of}
-use Rattle.shape.specs.Refusal.{any_of, beyond_limit, point_beyond, bounds_beyond, radii_beyond, point_below, radii_below, inverted, made, new_of}
+use Rattle.shape.specs.Refusal.{any_corner, beyond_limit, point_beyond, bounds_beyond, radii_beyond, point_below, radii_below, inverted, made, new_of}
 use Rattle.quadrant.specs.Quadrant.{square_corner}
 use Rattle.containment.specs.Contains.{within, square_contains, norm_contains, corner_contains_of, contains_of}
 
 -- opens the float operations and the definitions of a shape with square corners at once
 unfoldable opened : Unit {0}
-unfolding add sub mul div neg lt le eq ne round of_bits abs_of min_of add_of sub_of div_of shrink_of abs_point compute_octant_of forward_scale_of or_sign_of compute_quadrant_of both_zero split_of same_point all_same one_quadrant unequal_shape shape_of any_of beyond_limit point_beyond bounds_beyond radii_beyond point_below radii_below inverted new_of within square_corner square_contains norm_contains corner_contains_of contains_of
+unfolding add sub mul div neg lt le eq ne round of_bits abs_of min_of add_of sub_of div_of shrink_of abs_point compute_octant_of forward_scale_of or_sign_of compute_quadrant_of both_zero split_of same_point all_same one_quadrant unequal_shape shape_of any_corner beyond_limit point_beyond bounds_beyond radii_beyond point_below radii_below inverted new_of within square_corner square_contains norm_contains corner_contains_of contains_of
 opened = tt
 
 abbrev five : Float

@@ -17,13 +17,9 @@ use Rattle.shape.specs.declared.ShapeError.TheVariants.{BeyondLimit, NegativeRad
 abbrev pub limit : Float
 limit = of_bits binary32 0x4680_0000  -- 16384.0
 
--- one of four holds
-unfoldable pub any_of : Bool → Bool → Bool → Bool → Bool
-any_of a b c d = a || b || c || d
-
 -- the radii of one of the corners have it
-abbrev any_corner : (Point → Bool) → CornerRadii → Bool
-any_corner has radii = any_of (has radii.top_left) (has radii.top_right) (has radii.bottom_left) (has radii.bottom_right)
+unfoldable pub any_corner : (Point → Bool) → CornerRadii → Bool
+any_corner has radii = has radii.top_left || has radii.top_right || has radii.bottom_left || has radii.bottom_right
 
 -- ---- cause 2: a component of the bounds or the radii is not finite, or over the limit in magnitude
 unfoldable pub beyond_limit : Float → Bool
