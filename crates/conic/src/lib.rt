@@ -51,6 +51,7 @@ pub enum Lowered {
 pub const MAX_DEPTH: usize = 6;
 
 // Whether a conic is one line: it has no curve, or no finite place for one.
+#[tactic(auto, unfolding(crate::specs::Conic::is_line))]
 fn is_line(c: Conic) -> bool
     ensures { result ≡ is_line c }
 {
@@ -68,6 +69,7 @@ fn is_line(c: Conic) -> bool
 }
 
 // The one rule of what a conic is drawn as: the need of a conic and its writing both go by it.
+#[tactic(auto, unfolding(crate::specs::Conic::lower_of))]
 pub fn lower(c: Conic) -> Lowered
     ensures { result ≡ lower_of c }
 {
@@ -78,6 +80,7 @@ pub fn lower(c: Conic) -> Lowered
     Lowered::Curve(c)
 }
 
+#[tactic(auto, unfolding(crate::specs::Conic::conic_mid))]
 fn conic_mid(c: Conic) -> Point
     ensures { result ≡ conic_mid c }
 {
@@ -86,6 +89,7 @@ fn conic_mid(c: Conic) -> Point
     sum / (2.0 * (1.0 + w))
 }
 
+#[tactic(auto, unfolding(crate::specs::Conic::quad_mid))]
 fn quad_mid(c: Conic) -> Point
     ensures { result ≡ quad_mid c }
 {
@@ -109,6 +113,7 @@ pub fn is_near_one(w: f32) -> bool
 // within two parts in a million of a millionth of the other; near 0 that bound fails.
 // What is called at each halving takes a conic's floats one by one: a record would go through memory
 // at each call. There is no branch, so that both halves of a conic are compared side by side.
+#[tactic(auto, unfolding(crate::specs::Conic::surely_near, crate::specs::Conic::surely_far))]
 pub fn closeness(x0: f32, y0: f32, x1: f32, y1: f32, x2: f32, y2: f32, w: f32) -> BySquares
     ensures { (result.flat ≡ surely_near (conic_at x0 y0 x1 y1 x2 y2 w)) × (result.curved ≡ surely_far (conic_at x0 y0 x1 y1 x2 y2 w)) }
 {
@@ -127,6 +132,7 @@ pub fn closeness(x0: f32, y0: f32, x1: f32, y1: f32, x2: f32, y2: f32, w: f32) -
 }
 
 // The same of any conic, as one answer.
+#[tactic(auto, unfolding(crate::specs::Conic::flatness_of))]
 pub fn flatness_by_squares(x0: f32, y0: f32, x1: f32, y1: f32, x2: f32, y2: f32, w: f32) -> Flatness
     ensures { result ≡ flatness_of (conic_at x0 y0 x1 y1 x2 y2 w) }
 {
@@ -144,6 +150,7 @@ pub fn flatness_by_squares(x0: f32, y0: f32, x1: f32, y1: f32, x2: f32, y2: f32,
 }
 
 // Whether the middles of the conic and of the quad are near each other, measured by a chord above 0.
+#[tactic(auto, unfolding(crate::specs::Conic::near_of, geometry::specs::Point::length_of))]
 pub fn is_near(x0: f32, y0: f32, x1: f32, y1: f32, x2: f32, y2: f32, w: f32) -> bool
     ensures { result ≡ near_of (distance_of (conic_at x0 y0 x1 y1 x2 y2 w)) (chord_of (conic_at x0 y0 x1 y1 x2 y2 w)) }
 {
@@ -173,6 +180,7 @@ fn is_flat(x0: f32, y0: f32, x1: f32, y1: f32, x2: f32, y2: f32, w: f32) -> bool
 }
 
 // The weight of both halves of a conic.
+#[tactic(auto, unfolding(crate::specs::Conic::half_weight_of))]
 pub fn half_weight(w: f32) -> f32
     ensures { result ≡ half_weight_of w }
 {
@@ -180,6 +188,7 @@ pub fn half_weight(w: f32) -> f32
 }
 
 // Both halves of a conic, at its middle parameter.
+#[tactic(auto, unfolding(crate::specs::Conic::split_of))]
 pub fn subdivide(x0: f32, y0: f32, x1: f32, y1: f32, x2: f32, y2: f32, w: f32) -> Subdivision
     ensures { halves_of (conic_at x0 y0 x1 y1 x2 y2 w) result (half_weight_of w) ≡ split_of (conic_at x0 y0 x1 y1 x2 y2 w) }
 {
@@ -220,6 +229,7 @@ fn count_quads(x0: f32, y0: f32, x1: f32, y1: f32, x2: f32, y2: f32, w: f32, dep
 }
 
 // How many quads a conic is drawn as: 1 to 64.
+#[tactic(auto, unfolding(crate::specs::Halving::count_of))]
 pub fn count(c: Conic) -> usize
     ensures { result ≡ count_of c }
 {

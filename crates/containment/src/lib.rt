@@ -19,6 +19,7 @@ use shape::RoundSuperellipse;
 
 // Whether a point is inside a superellipse of the half-extent a and the degree n, its border included. Its floats come
 // one by one: a point would be packed into one word and taken apart again.
+#[tactic(auto, unfolding(crate::specs::Parts::in_superellipse))]
 fn superellipse_contains(x: f32, y: f32, a: f32, n: f32) -> bool
     ensures { result ≡ in_superellipse (point x y) a n }
 {
@@ -28,6 +29,7 @@ fn superellipse_contains(x: f32, y: f32, a: f32, n: f32) -> bool
 }
 
 // Whether p lies in the octant and before the circle's start.
+#[tactic(auto, unfolding(crate::specs::Parts::asks_powers))]
 fn asks_powers(param: Octant, p: Point) -> bool
     ensures { result ≡ asks_powers param p }
 {
@@ -44,6 +46,7 @@ fn asks_powers(param: Octant, p: Point) -> bool
 }
 
 // Whether p is inside the octant's arc; true for any point outside the octant.
+#[tactic(auto, unfolding(crate::specs::Contains::octant_contains_of, crate::specs::Parts::in_superellipse))]
 pub fn octant_contains(param: Octant, p: Point) -> bool
     ensures { result ≡ octant_contains_of param p }
 {
@@ -64,6 +67,7 @@ pub fn octant_contains(param: Octant, p: Point) -> bool
 }
 
 // A square corner owns its top and left borders, where the scale is negative, but not its bottom and right ones.
+#[tactic(auto, unfolding(crate::specs::Contains::within))]
 fn is_within(delta: f32, scale: f32) -> bool
     ensures { result ≡ within delta scale }
 {
@@ -73,6 +77,7 @@ fn is_within(delta: f32, scale: f32) -> bool
     delta == 0.0 && scale < 0.0
 }
 
+#[tactic(auto, unfolding(crate::specs::Contains::square_contains))]
 fn square_contains(param: Quadrant, norm_point: Point) -> bool
     ensures { result ≡ square_contains param norm_point }
 {
@@ -101,6 +106,7 @@ fn round_contains(param: Quadrant, norm_point: Point) -> bool
     octant_contains(param.top, from_top) && octant_contains(param.right, flipped)
 }
 
+#[tactic(auto, unfolding(crate::specs::Contains::norm_contains))]
 pub fn norm_contains(param: Quadrant, norm_point: Point) -> bool
     ensures { result ≡ norm_contains param norm_point }
 {
@@ -146,6 +152,7 @@ pub fn corner_contains(param: Quadrant, p: Point, check_quadrant: bool) -> bool
     norm_contains(param, own_point)
 }
 
+#[tactic(auto, unfolding(crate::specs::Contains::contains_of))]
 pub fn contains(shape: RoundSuperellipse, p: Point) -> bool
     ensures { result ≡ contains_of shape p }
 {
@@ -175,6 +182,7 @@ pub struct Arcs {
     pub is_round: bool,
 }
 
+#[tactic(auto, unfolding(crate::specs::Arcs::arcs_of))]
 fn arcs_of(q: Quadrant) -> Arcs
     ensures { result ≡ arcs_of q }
 {
@@ -212,6 +220,7 @@ fn arcs_of(q: Quadrant) -> Arcs
 }
 
 // The corners' arcs: top right, bottom right, top left, bottom left.
+#[tactic(auto, unfolding(crate::specs::Arcs::arcs_in))]
 pub fn all_arcs(shape: RoundSuperellipse) -> [Arcs; 4]
     ensures { result ≡ arcs_in shape }
 {
@@ -223,12 +232,14 @@ pub fn all_arcs(shape: RoundSuperellipse) -> [Arcs; 4]
 }
 
 // All comparisons are made, with no branch between them: which of them decides is hard to foresee.
+#[tactic(auto, unfolding(crate::specs::Arcs::beyond_circle))]
 fn is_beyond_circle(x: f32, y: f32, start: f32, d: f32, radius: f32) -> bool
     ensures { result ≡ beyond_circle x y start d radius }
 {
     !((x < 0.0) | (y < 0.0) | (y < x) | (x <= start) | (d < radius))
 }
 
+#[tactic(auto, unfolding(crate::specs::Arcs::beyond_arcs))]
 fn is_beyond_arcs(a: Arcs, n: Point) -> bool
     ensures { result ≡ beyond_arcs a n }
 {
@@ -243,6 +254,7 @@ fn is_beyond_arcs(a: Arcs, n: Point) -> bool
 }
 
 // Whether p lies beyond an arc. Then the corner does not contain it.
+#[tactic(auto, unfolding(crate::specs::Arcs::misses_of))]
 pub fn misses(a: Arcs, same: bool, p: Point) -> bool
     ensures { result ≡ misses_of a same p }
 {

@@ -20,6 +20,7 @@ impl Add for Point {
 
     ghost add_gives = { λ p q r. r ≡ add_of p q };
 
+    #[tactic(auto, unfolding(crate::specs::Point::add_of))]
     fn add(self, q: Point) -> Point {
         Point {
             x: self.x + q.x,
@@ -33,6 +34,7 @@ impl Sub for Point {
 
     ghost sub_gives = { λ p q r. r ≡ sub_of p q };
 
+    #[tactic(auto, unfolding(crate::specs::Point::sub_of))]
     fn sub(self, q: Point) -> Point {
         Point {
             x: self.x - q.x,
@@ -46,6 +48,7 @@ impl Mul for Point {
 
     ghost mul_gives = { λ p q r. r ≡ mul_of p q };
 
+    #[tactic(auto, unfolding(crate::specs::Point::mul_of))]
     fn mul(self, q: Point) -> Point {
         Point {
             x: self.x * q.x,
@@ -59,6 +62,7 @@ impl Div for Point {
 
     ghost div_gives = { λ p q r. r ≡ div_of p q };
 
+    #[tactic(auto, unfolding(crate::specs::Point::div_of))]
     fn div(self, q: Point) -> Point {
         Point {
             x: self.x / q.x,
@@ -72,6 +76,7 @@ impl Mul<f32> for Point {
 
     ghost mul_gives = { λ p k r. r ≡ scale_of p k };
 
+    #[tactic(auto, unfolding(crate::specs::Point::scale_of))]
     fn mul(self, k: f32) -> Point {
         Point {
             x: self.x * k,
@@ -86,6 +91,7 @@ impl Div<f32> for Point {
 
     ghost div_gives = { λ p k r. r ≡ shrink_of p k };
 
+    #[tactic(auto, unfolding(crate::specs::Point::shrink_of))]
     fn div(self, k: f32) -> Point {
         Point {
             x: self.x / k,
@@ -99,6 +105,7 @@ impl Neg for Point {
 
     ghost neg_gives = { λ p r. r ≡ neg_of p };
 
+    #[tactic(auto, unfolding(crate::specs::Point::neg_of))]
     fn neg(self) -> Point {
         Point {
             x: -self.x,
@@ -120,6 +127,7 @@ fn magnitude(x: f32) -> f32
 }
 
 impl Point {
+    #[tactic(auto, unfolding(crate::specs::Point::abs_point))]
     pub fn abs(self) -> Point
         ensures { result ≡ abs_point self }
     {
@@ -129,24 +137,28 @@ impl Point {
         }
     }
 
+    #[tactic(auto, unfolding(crate::specs::Point::finite_point))]
     pub fn is_finite(self) -> bool
         ensures { result ≡ finite_point self }
     {
         ieee::is_finite(self.x) && ieee::is_finite(self.y)
     }
 
+    #[tactic(auto, unfolding(crate::specs::Point::length_squared_of))]
     pub fn length_squared(self) -> f32
         ensures { result ≡ length_squared_of self }
     {
         self.x * self.x + self.y * self.y
     }
 
+    #[tactic(auto, unfolding(crate::specs::Point::distance_squared_of))]
     pub fn distance_squared(self, q: Point) -> f32
         ensures { result ≡ distance_squared_of self q }
     {
         (self - q).length_squared()
     }
 
+    #[tactic(auto, unfolding(crate::specs::Point::length_of))]
     pub fn length(self) -> f32
         ensures { result ≡ length_of self }
     {
@@ -154,6 +166,7 @@ impl Point {
     }
 
     // The reciprocal first, then a product.
+    #[tactic(auto, unfolding(crate::specs::Point::normalize_of))]
     pub fn normalize(self) -> Point
         ensures { result ≡ normalize_of self }
     {

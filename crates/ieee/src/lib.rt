@@ -11,6 +11,7 @@ ghost use Rattle.ieee.specs.Basic.{widen_of, abs_of, min_of, max_of, clamp_of};
 ghost use Rattle.ieee.specs.Narrow.{narrow_of, pattern_of, regular};
 ghost use Rattle.ieee.specs.Sqrt.{sqrt_of};
 
+#[tactic(auto, unfolding(crate::specs::Basic::widen_of))]
 pub fn widen(x: f32) -> f64
     ensures { result ≡ widen_of x }
 {
@@ -34,6 +35,7 @@ pub fn abs(x: f32) -> f32
     f32::from_bits(f32::to_bits(x) % 0x8000_0000)
 }
 
+#[tactic(auto, unfolding(crate::specs::Basic::min_of))]
 pub fn min(a: f32, b: f32) -> f32
     ensures { result ≡ min_of a b }
 {
@@ -46,6 +48,7 @@ pub fn min(a: f32, b: f32) -> f32
     a
 }
 
+#[tactic(auto, unfolding(crate::specs::Basic::max_of))]
 pub fn max(a: f32, b: f32) -> f32
     ensures { result ≡ max_of a b }
 {
@@ -58,6 +61,7 @@ pub fn max(a: f32, b: f32) -> f32
     a
 }
 
+#[tactic(auto, unfolding(crate::specs::Basic::clamp_of))]
 pub fn clamp(x: f32, lo: f32, hi: f32) -> f32
     ensures { result ≡ clamp_of x lo hi }
 {
@@ -129,6 +133,7 @@ pub fn narrow(x: f64) -> f32
 
 // Whether the f32 nearest to x is told by rounding x's pattern: x is from 2^-126, the least normal f32, to below 2^128 in
 // size. So no NaN is, and no infinity. The tests are joined by & and |, which do not branch.
+#[tactic(auto, unfolding(crate::specs::Narrow::regular))]
 pub fn is_regular(x: f64) -> bool
     ensures { result ≡ regular x }
 {

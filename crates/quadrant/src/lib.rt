@@ -21,6 +21,7 @@ pub struct Quadrant {
 
 impl Quadrant {
     // A degree that is a NaN is round.
+    #[tactic(auto, unfolding(crate::specs::Quadrant::square_corner))]
     pub fn is_square(self) -> bool
         ensures { result ≡ square_corner self }
     {
@@ -29,6 +30,7 @@ impl Quadrant {
 }
 
 // A zero radius stretches nothing.
+#[tactic(auto, unfolding(crate::specs::Quadrant::forward_scale_of))]
 fn forward_scale(radii: Point, norm_radius: f32) -> Point
     ensures { result ≡ forward_scale_of radii norm_radius }
 {
@@ -39,6 +41,7 @@ fn forward_scale(radii: Point, norm_radius: f32) -> Point
 }
 
 // Only a NaN is replaced: an infinite scale stays.
+#[tactic(auto, unfolding(crate::specs::Quadrant::or_sign_of))]
 fn or_sign(raw: f32, sign: f32) -> f32
     ensures { result ≡ or_sign_of raw sign }
 {
@@ -84,6 +87,7 @@ pub struct Frame {
     pub radius: f32,
 }
 
+#[tactic(auto, unfolding(crate::specs::Quadrant::frame_of))]
 pub fn frame_of(center: Point, corner: Point, in_radii: Point, sign: Point) -> Frame
     ensures { result ≡ frame_of center corner in_radii sign }
 {
@@ -109,6 +113,7 @@ pub fn frame_of(center: Point, corner: Point, in_radii: Point, sign: Point) -> F
 }
 
 // The two octants' superellipses are offset by the same distance in opposite directions.
+#[tactic(auto, unfolding(crate::specs::Quadrant::top_offset_of))]
 pub fn top_offset(f: Frame) -> Point
     ensures { result ≡ top_offset_of f }
 {
@@ -116,6 +121,7 @@ pub fn top_offset(f: Frame) -> Point
     Point { x: 0.0, y: -c }
 }
 
+#[tactic(auto, unfolding(crate::specs::Quadrant::right_offset_of))]
 pub fn right_offset(f: Frame) -> Point
     ensures { result ≡ right_offset_of f }
 {
@@ -124,6 +130,7 @@ pub fn right_offset(f: Frame) -> Point
 }
 
 // The quadrant of a corner, solved.
+#[tactic(auto, unfolding(crate::specs::Quadrant::solved_of))]
 pub fn solved(f: Frame) -> Quadrant
     ensures { result ≡ solved_of f }
 {
@@ -146,6 +153,7 @@ pub fn compute_quadrant(center: Point, corner: Point, in_radii: Point, sign: Poi
     solved(frame_of(center, corner, in_radii, sign))
 }
 
+#[tactic(auto, unfolding(crate::specs::Quadrant::both_zero))]
 fn both_zero(a: f32, b: f32) -> bool
     ensures { result ≡ both_zero a b }
 {
@@ -153,6 +161,7 @@ fn both_zero(a: f32, b: f32) -> bool
 }
 
 // Where two adjacent corners divide the side they share, in proportion to their radii.
+#[tactic(auto, unfolding(crate::specs::Quadrant::split_of))]
 pub fn split(low: f32, high: f32, ratio_low: f32, ratio_high: f32) -> f32
     ensures { result ≡ split_of low high ratio_low ratio_high }
 {
