@@ -78,6 +78,7 @@ impl fmt::Display for ShapeError {
 
 impl Error for ShapeError {}
 
+#[tactic(auto, unfolding(crate::specs::Shape::all_same, crate::specs::Shape::same_point))]
 fn all_same(radii: CornerRadii) -> bool
     ensures { result ≡ all_same radii }
 {
@@ -87,12 +88,14 @@ fn all_same(radii: CornerRadii) -> bool
 }
 
 // Four empty corners are left out: a plain rectangle follows the half-open border rule.
+#[tactic(auto, unfolding(crate::specs::Shape::one_quadrant))]
 fn one_quadrant(radii: CornerRadii) -> bool
     ensures { result ≡ one_quadrant radii }
 {
     all_same(radii) && radii.top_left.x != 0.0 && radii.top_left.y != 0.0
 }
 
+#[tactic(auto, unfolding(crate::specs::Shape::equal_shape))]
 fn equal_shape(bounds: Bounds, radii: CornerRadii) -> RoundSuperellipse
     ensures { result ≡ equal_shape bounds radii }
 {
@@ -139,6 +142,7 @@ fn frames(bounds: Bounds, radii: CornerRadii) -> FourFrames
     }
 }
 
+#[tactic(auto, unfolding(crate::specs::Shape::unequal_shape))]
 fn unequal_shape(bounds: Bounds, radii: CornerRadii) -> RoundSuperellipse
     ensures { result ≡ unequal_shape bounds radii }
 {
@@ -157,6 +161,7 @@ fn unequal_shape(bounds: Bounds, radii: CornerRadii) -> RoundSuperellipse
 }
 
 // The shape of any bounds and radii, refused or not.
+#[tactic(auto, unfolding(crate::specs::Shape::shape_of))]
 fn shape_of(bounds: Bounds, radii: CornerRadii) -> RoundSuperellipse
     ensures { result ≡ shape_of bounds radii }
 {
@@ -178,6 +183,7 @@ fn any_corner<F: Fn(Point) -> bool>(radii: CornerRadii, test: F) -> bool
         | test(radii.bottom_right)
 }
 
+#[tactic(auto, unfolding(crate::specs::Refusal::beyond_limit))]
 fn beyond_limit(x: f32) -> bool
     ensures { result ≡ beyond_limit x }
 {
@@ -187,12 +193,14 @@ fn beyond_limit(x: f32) -> bool
     true
 }
 
+#[tactic(auto, unfolding(crate::specs::Refusal::point_beyond))]
 fn point_beyond(p: Point) -> bool
     ensures { result ≡ point_beyond p }
 {
     beyond_limit(p.x) || beyond_limit(p.y)
 }
 
+#[tactic(auto, unfolding(crate::specs::Refusal::bounds_beyond))]
 fn bounds_beyond(bounds: Bounds) -> bool
     ensures { result ≡ bounds_beyond bounds }
 {
@@ -207,6 +215,7 @@ fn radii_beyond(radii: CornerRadii) -> bool
 }
 
 // -0 is not below zero.
+#[tactic(auto, unfolding(crate::specs::Refusal::point_below))]
 fn point_below(p: Point) -> bool
     ensures { result ≡ point_below p }
 {
@@ -220,6 +229,7 @@ fn radii_below(radii: CornerRadii) -> bool
     any_corner(radii, point_below)
 }
 
+#[tactic(auto, unfolding(crate::specs::Refusal::inverted))]
 fn is_inverted(bounds: Bounds) -> bool
     ensures { result ≡ inverted bounds }
 {
