@@ -1,3 +1,3 @@
-pub mod Records
+pub mod Following
 pub mod Counting
 pub mod Walking

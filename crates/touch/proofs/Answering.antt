@@ -10,7 +10,7 @@ use lib.Seq.{take_at, drop_at}
 use Rattle.geometry.specs.declared.Point.{Point}
 use Rattle.panel_file.specs.declared.Record.{Record}
 use Rattle.panel_file.specs.Panel.{done, limit, records_from, records_of, is_done, records_in, buttons_of, touches_of}
-use Rattle.panel_file.proofs.Records.{records_fit, good_short, bytes_of_all}
+use Rattle.panel_file.proofs.Following.{records_fit, good_short, bytes_of_all}
 use Rattle.panel_file.proofs.Walking.{is-done}
 use Rattle.touch.specs.Touch.{nowhere, nowhere_code, code_of, place_of, seek, shape_of, shapes_of, place_among, places_of}
 use Rattle.touch.specs.Search.{floats_of, points_in, passes}

@@ -10,7 +10,7 @@ use Rattle.geometry.specs.declared.Point.{Point}
 use Rattle.panel_file.specs.declared.Record.{Record}
 use Rattle.panel_file.specs.declared.Record.TheVariants.{Button as ButtonRecord, Touch as TouchRecord}
 use Rattle.panel_file.specs.Panel.{touches_of}
-use Rattle.panel_file.proofs.Records.{bytes_of}
+use Rattle.panel_file.proofs.Following.{bytes_of}
 use Rattle.touch.specs.Search.{floats_of, points_in, next_count, kept_in}
 
 abbrev point : Float → Float → Point
