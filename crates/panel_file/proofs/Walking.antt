@@ -89,7 +89,7 @@ checked_broken (refused n p) b e = cc
 few : (b t n : ℕ) → 52 * b + 12 * t ≤ n → n ≤ 65536 → b + t ≤ 5461
 few b t n h k = omega arith
 
-count_all : (rs : List Record) → length (buttons_of rs) + length (touches_of rs) ≡ length rs
+pub count_all : (rs : List Record) → length (buttons_of rs) + length (touches_of rs) ≡ length rs
 unfolding buttons_of touches_of
 count_all [] = refl
 count_all (ButtonRecord b ∷ rs) = omega (arith, count_all rs)
