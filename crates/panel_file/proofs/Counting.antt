@@ -11,7 +11,7 @@ use Rattle.panel_file.specs.declared.Record.{Record}
 use Rattle.panel_file.specs.declared.Counts.{Counts}
 use Rattle.panel_file.specs.Panel.{Answer, done, refused, content_at, on_done, buttons_of, touches_of, counts_of, counted_of}
 
-abbrev counts : ℕ → ℕ → Counts
+abbrev pub counts : ℕ → ℕ → Counts
 counts b t = record { buttons = b; touches = t }
 
 -- the counts of some records, on top of others

@@ -1,3 +1,4 @@
-pub mod Records
+pub mod Following
 pub mod Counting
 pub mod Walking
+pub mod Opened

@@ -2,16 +2,16 @@
 use mathlib.Core.Path.{◌≡◌, refl, sym, ap, ◌∙◌}
 use mathlib.Core.Bool.{true, false≢true}
 use mathlib.Core.List.{List, [], ◌∷◌}
-use Prim.Native.Nat.{ℕ, ◌+◌, ◌≤◌, ◌<◌}
+use Prim.Native.Nat.{ℕ, ◌+◌, ◌*◌, ◌≤◌, ◌<◌}
 use native.Mathlib.Omega.{arith}
 use lib.ListN.{length}
 use Rattle.panel_file.specs.declared.Record.{Record}
-use Rattle.panel_file.specs.declared.Read.{Read}
-use Rattle.panel_file.specs.declared.Read.TheVariants.{Record as ReadRecord, End as ReadEnd, Broken as ReadBroken}
-use Rattle.panel_file.specs.declared.Checked.TheVariants.{Good as CheckedGood, Broken as CheckedBroken}
+use Rattle.panel_file.specs.declared.Record.TheVariants.{Button as ButtonRecord, Touch as TouchRecord}
+use Rattle.panel_file.specs.declared.Broken.{Broken}
+use Rattle.std.proofs.Common.{Option, Some, None, Result, Ok, Err}
 use Rattle.panel_file.specs.declared.Counts.{Counts}
-use Rattle.panel_file.specs.Panel.{Answer, done, refused, broken, limit, entry, record_at, read_of, on_done, followed, records_from, is_done, records_in, counts_of, checked_of}
-use Rattle.panel_file.proofs.Records.{records_follow, record_within, record_bytes, bytes_of, bytes-least}
+use Rattle.panel_file.specs.Panel.{buttons_of, touches_of, records_of, Answer, done, refused, broken, limit, entry, record_at, read_of, on_done, followed, records_from, is_done, records_in, counts_of, checked_of}
+use Rattle.panel_file.proofs.Following.{records_follow, record_within, record_bytes, bytes_of, bytes-least, bytes_of_all, records_fit, good_short}
 
 -- the value of an answer that has one
 pub is-done : (x : Answer (List Record)) → is_done x ≡ true → x ≡ done (records_in x)
@@ -28,18 +28,18 @@ pub record Within (file : List ℕ) (at : ℕ) (r : Record) (next : ℕ) : Type 
   pub least : 12 ≤ bytes_of r
 
 -- reading at an offset answered a
-module _ (file : List ℕ) (at : ℕ) (a : Read) (e : read_of a ≡ record_at file at) where
+module _ (file : List ℕ) (at : ℕ) (a : Result (Option (Record × ℕ)) Broken) (e : read_of a ≡ record_at file at) where
   following : records_from file at ≡ followed (records_from file) (read_of a)
   following = records_follow file at ∙ ap (followed (records_from file)) (sym e)
 
-  module _ (r : Record) (next : ℕ) (q : a ≡ ReadRecord r next) where
+  module _ (r : Record) (next : ℕ) (q : a ≡ Ok (Some (r, next))) where
     entered : record_at file at ≡ done (entry r next)
     unfolding read_of
     entered = sym e ∙ ap read_of q
 
     consed : records_from file at ≡ on_done (λ rs. r ∷ rs) (records_from file next)
     unfolding read_of followed
-    consed = following ∙ ap (λ (b : Read). followed (records_from file) (read_of b)) q
+    consed = following ∙ ap (λ (b : Result (Option (Record × ℕ)) Broken). followed (records_from file) (read_of b)) q
 
     done_behind : (x : Answer (List Record)) → is_done (on_done (λ rs. r ∷ rs) x) ≡ is_done x
     unfolding is_done on_done
@@ -64,21 +64,42 @@ module _ (file : List ℕ) (at : ℕ) (a : Read) (e : read_of a ≡ record_at fi
     step_records h = ap records_in consed ∙ in_behind (records_from file next) (step-done h)
 
 -- where no record is read in a good file, no records are left
-pub stop_records : (file : List ℕ) (at : ℕ) (a : Read) → read_of a ≡ record_at file at → ((r : Record) (next : ℕ) → a ≡ ReadRecord r next → ⊥) → is_done (records_from file at) ≡ true
+pub stop_records : (file : List ℕ) (at : ℕ) (a : Result (Option (Record × ℕ)) Broken) → read_of a ≡ record_at file at → ((r : Record) (next : ℕ) → a ≡ Ok (Some (r, next)) → ⊥) → is_done (records_from file at) ≡ true
     → records_in (records_from file at) ≡ []
 unfolding read_of followed records_in is_done
-stop_records file at (ReadRecord r next) e o h = absurd (o r next refl)
-stop_records file at ReadEnd e o h = ap records_in (following file at ReadEnd e)
-stop_records file at (ReadBroken b) e o h = absurd (false≢true (ap is_done (sym (following file at (ReadBroken b) e)) ∙ h))
+stop_records file at (Ok (Some (r, next))) e o h = absurd (o r next refl)
+stop_records file at (Ok None) e o h = ap records_in (following file at (Ok None) e)
+stop_records file at (Err b) e o h = absurd (false≢true (ap is_done (sym (following file at (Err b) e)) ∙ h))
 
 -- ---- what `check` says
 
-pub checked_good : (x : Answer (List Record)) (c : Counts) → checked_of (CheckedGood c) ≡ on_done counts_of x → (is_done x ≡ true) × (c ≡ counts_of (records_in x))
+pub checked_good : (x : Answer (List Record)) (c : Counts) → checked_of (Ok c) ≡ on_done counts_of x → (is_done x ≡ true) × (c ≡ counts_of (records_in x))
 unfolding checked_of on_done is_done records_in
 checked_good (done rs) c e = (refl, cc)
 checked_good (refused n o) c e = let z : ◌≡◌ {A = ℕ} 0 1 = cc in absurd (omega arith)
 
-pub checked_broken : (x : Answer (List Record)) (o : ℕ) → checked_of (CheckedBroken o) ≡ on_done counts_of x → broken o ≡ x
+pub checked_broken : (x : Answer (List Record)) (b : Broken) → checked_of (Err b) ≡ on_done counts_of x → broken b.offset ≡ x
 unfolding checked_of on_done
-checked_broken (done rs) o e = let z : ◌≡◌ {A = ℕ} 0 1 = cc in absurd (omega arith)
-checked_broken (refused n p) o e = cc
+checked_broken (done rs) b e = let z : ◌≡◌ {A = ℕ} 0 1 = cc in absurd (omega arith)
+checked_broken (refused n p) b e = cc
+
+-- ---- a good file
+
+-- a record takes 12 bytes at least, so no more than 5,461 of them lie in a file
+few : (b t n : ℕ) → 52 * b + 12 * t ≤ n → n ≤ 65536 → b + t ≤ 5461
+few b t n h k = omega arith
+
+pub count_all : (rs : List Record) → length (buttons_of rs) + length (touches_of rs) ≡ length rs
+unfolding buttons_of touches_of
+count_all [] = refl
+count_all (ButtonRecord b ∷ rs) = omega (arith, count_all rs)
+count_all (TouchRecord p ∷ rs) = omega (arith, count_all rs)
+
+pub good_few : (file : List ℕ) → is_done (records_of file) ≡ true
+    → let rs = records_in (records_of file) in (length rs ≤ 5461) × (length (touches_of rs) ≤ 5461)
+unfolding records_of bytes_of_all
+good_few file e =
+    let rs = records_in (records_from file 0) in
+    let whole = is-done (records_from file 0) e in
+    let f = few (length (buttons_of rs)) (length (touches_of rs)) (length file) (omega (arith, records_fit file 0 rs whole)) (good_short file 0 rs whole) in
+    omega (arith, count_all rs)

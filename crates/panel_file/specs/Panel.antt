@@ -1,22 +1,15 @@
 -- What a panel file is: the list of its records, or cause 7 with the offset of the first record that is cut short, of unknown kind or of a length that is not its kind's. Definitions only.
-use Rattle.std.specs.Prelude.{ℕ, zero, suc, ◌+◌, ◌-◌, ◌≤◌, Bool, true, false, cond, List, [], ◌∷◌, length, leb, ltb, eqb}
+use Rattle.std.specs.Prelude.{ℕ, zero, suc, ◌+◌, ◌-◌, Bool, true, false, cond, List, [], ◌∷◌, length, leb, ltb, eqb, Option, Some, None, Result, Ok, Err}
 use Rattle.geometry.specs.declared.Point.{Point}
 use Rattle.panel_file.specs.Bytes.{u16_at, point_at}
 use Rattle.panel_file.specs.declared.Kind.{Kind}
 use Rattle.panel_file.specs.declared.Kind.TheVariants.{Button as button, Touch as touch}
-use Rattle.panel_file.specs.declared.KindFound.{KindFound}
-use Rattle.panel_file.specs.declared.KindFound.TheVariants.{Known, Unknown}
+use Rattle.panel_file.specs.declared.UnknownKind.{UnknownKind}
 use Rattle.panel_file.specs.declared.Button.{Button}
-use Rattle.panel_file.specs.declared.Fields.{Fields}
 use Rattle.panel_file.specs.declared.Record.{Record}
 use Rattle.panel_file.specs.declared.Record.TheVariants.{Button as ButtonRecord, Touch as TouchRecord}
-use Rattle.panel_file.specs.declared.Head.{Head}
-use Rattle.panel_file.specs.declared.Head.TheVariants.{Whole, End, Broken}
-use Rattle.panel_file.specs.declared.Read.{Read}
-use Rattle.panel_file.specs.declared.Read.TheVariants.{Record as ReadRecord, End as ReadEnd, Broken as ReadBroken}
 use Rattle.panel_file.specs.declared.Counts.{Counts}
-use Rattle.panel_file.specs.declared.Checked.{Checked}
-use Rattle.panel_file.specs.declared.Checked.TheVariants.{Good as CheckedGood, Broken as CheckedBroken}
+use Rattle.panel_file.specs.declared.Broken.{Broken}
 
 -- What a call on a file answers: a value, or the number of document 01's cause with an offset.
 pub data Answer (A : Type 0) : Type 0 where
@@ -35,52 +28,43 @@ abbrev pub header : ℕ
 header = 4
 
 -- the kinds by their numbers
-unfoldable pub kind_of : ℕ → KindFound
-kind_of n = cond (eqb n 1) (Known button) (cond (eqb n 2) (Known touch) Unknown)
+unfoldable pub kind_of : ℕ → Result Kind UnknownKind
+kind_of n = cond (eqb n 1) (Ok button) (cond (eqb n 2) (Ok touch) (Err (record { number = n })))
 
 -- the length of a payload
 unfoldable pub payload_of : Kind → ℕ
 payload_of button = 48
 payload_of touch = 8
 
--- where a button's fields start in its payload
-unfoldable pub button_fields : Fields
-button_fields = record { min = 0; max = 8; top_left = 16; top_right = 24; bottom_left = 32; bottom_right = 40 }
-
--- the fields' points lie within a payload of n bytes
-pub record Inside (n : ℕ) (f : Fields) : Type 0 where
-  pub min : f.min + 8 ≤ n
-  pub max : f.max + 8 ≤ n
-  pub top_left_inside : f.top_left + 8 ≤ n
-  pub top_right_inside : f.top_right + 8 ≤ n
-  pub bottom_left_inside : f.bottom_left + 8 ≤ n
-  pub bottom_right_inside : f.bottom_right + 8 ≤ n
-
+-- the fields of a button, in their order, 8 bytes each
 unfoldable pub button_at : List ℕ → ℕ → Button
 button_at file at =
-    let f = button_fields in
     record {
-      min = point_at file (at + f.min);
-      max = point_at file (at + f.max);
-      top_left = point_at file (at + f.top_left);
-      top_right = point_at file (at + f.top_right);
-      bottom_left = point_at file (at + f.bottom_left);
-      bottom_right = point_at file (at + f.bottom_right);
+      min = point_at file at;
+      max = point_at file (at + 8);
+      top_left = point_at file (at + 16);
+      top_right = point_at file (at + 24);
+      bottom_left = point_at file (at + 32);
+      bottom_right = point_at file (at + 40);
     }
 
--- a record of a known kind is whole where its length is its kind's and that many bytes follow its header
-unfoldable pub whole_of : KindFound → ℕ → ℕ → ℕ → Head
-whole_of (Known kind) len left at =
-    cond (eqb len (payload_of kind)) (cond (leb (header + payload_of kind) left) (Whole kind) (Broken at)) (Broken at)
-whole_of Unknown len left at = Broken at
+-- a header that shows a broken record
+abbrev pub broken_head : ℕ → Result (Option Kind) Broken
+broken_head at = Err (record { offset = at })
 
--- What stands at an offset. A file that is too long is broken at 0, which is tested first.
-unfoldable pub head_at : List ℕ → ℕ → Head
+-- a record of a known kind is whole where its length is its kind's and that many bytes follow its header
+unfoldable pub whole_of : Result Kind UnknownKind → ℕ → ℕ → ℕ → Result (Option Kind) Broken
+whole_of (Ok kind) len left at =
+    cond (eqb len (payload_of kind)) (cond (leb (header + payload_of kind) left) (Ok (Some kind)) (broken_head at)) (broken_head at)
+whole_of (Err e) len left at = broken_head at
+
+-- What stands at an offset: the kind of a whole record, or none at the end of the file. A file that is too long is broken at 0, which is tested first.
+unfoldable pub head_at : List ℕ → ℕ → Result (Option Kind) Broken
 head_at file at =
     let n = length file in
-    cond (ltb limit n) (Broken 0)
-    (cond (leb n at) End
-    (cond (ltb (n - at) header) (Broken at)
+    cond (ltb limit n) (broken_head 0)
+    (cond (leb n at) (Ok None)
+    (cond (ltb (n - at) header) (broken_head at)
     (whole_of (kind_of (u16_at file (at + 2))) (u16_at file at) (n - at) at)))
 
 -- what a payload that starts at an offset holds
@@ -93,20 +77,20 @@ pub data Entry : Type 0 where
   entry : Record → ℕ → Entry
   end : Entry
 
-unfoldable pub entry_of : List ℕ → ℕ → Head → Answer Entry
-entry_of file at (Whole kind) = done (entry (content_at kind file (at + header)) (at + header + payload_of kind))
-entry_of file at End = done end
-entry_of file at (Broken o) = broken o
+unfoldable pub entry_of : List ℕ → ℕ → Result (Option Kind) Broken → Answer Entry
+entry_of file at (Ok (Some kind)) = done (entry (content_at kind file (at + header)) (at + header + payload_of kind))
+entry_of file at (Ok None) = done end
+entry_of file at (Err b) = broken b.offset
 
 -- the record at an offset
 unfoldable pub record_at : List ℕ → ℕ → Answer Entry
 record_at file at = entry_of file at (head_at file at)
 
--- what `Read` says
-unfoldable pub read_of : Read → Answer Entry
-read_of (ReadRecord r next) = done (entry r next)
-read_of ReadEnd = done end
-read_of (ReadBroken o) = broken o
+-- what `record_at` answers
+unfoldable pub read_of : Result (Option (Record × ℕ)) Broken → Answer Entry
+read_of (Ok (Some p)) = done (entry p.0 p.1)
+read_of (Ok None) = done end
+read_of (Err b) = broken b.offset
 
 -- one function of a value; a refusal stays what it is
 unfoldable pub on_done : {A B : Type 0} → (A → B) → Answer A → Answer B
@@ -159,7 +143,11 @@ unfoldable pub counted_of : Counts → Kind → Counts
 counted_of c button = record { buttons = c.buttons + 1; touches = c.touches }
 counted_of c touch = record { buttons = c.buttons; touches = c.touches + 1 }
 
--- what `Checked` says
-unfoldable pub checked_of : Checked → Answer Counts
-checked_of (CheckedGood c) = done c
-checked_of (CheckedBroken o) = broken o
+unfoldable pub kind_of_record : Record → Kind
+kind_of_record (ButtonRecord b) = button
+kind_of_record (TouchRecord p) = touch
+
+-- what `check` answers
+unfoldable pub checked_of : Result Counts Broken → Answer Counts
+checked_of (Ok c) = done c
+checked_of (Err b) = broken b.offset

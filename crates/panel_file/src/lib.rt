@@ -4,12 +4,16 @@
 #![tactic(auto)]
 
 ghost use Rattle.std.specs.Prelude.{◌≡◌, ◌+◌, ◌<◌, ◌≤◌, length};
-ghost use Rattle.std.specs.Float.{binary32};
-ghost use Rattle.std.specs.Float.Ieee.{of_bits};
 ghost use Rattle.panel_file.specs.Bytes.{u16_at, u32_at, f32_at, point_at};
-ghost use Rattle.panel_file.specs.Panel.{kind_of, payload_of, button_fields, Inside, button_at, head_at, record_at, read_of, records_of, on_done, counts_of, counted_of, checked_of};
+ghost use Rattle.panel_file.specs.Panel.{kind_of, payload_of, button_at, head_at, record_at, read_of, records_of, on_done, counts_of, counted_of, kind_of_record, checked_of};
 
+pub use file::{PanelFile, Records};
 use geometry::Point;
+use std::error::Error;
+use std::fmt;
+use std::num::f32_from_bits_with_nan;
+
+mod file;
 
 // The longest file.
 pub const LIMIT: usize = 65536;
@@ -17,17 +21,40 @@ pub const LIMIT: usize = 65536;
 // The bytes in front of a payload: its length and its kind.
 pub const HEADER: usize = 4;
 
-#[derive(Clone, Copy)]
+#[derive(Clone, Copy, Debug, PartialEq, Eq)]
 pub enum Kind {
     Button,
     Touch,
 }
 
-#[derive(Drop)]
-enum KindFound {
-    Known(Kind),
-    Unknown,
+// A number that is no kind's.
+#[derive(Clone, Copy, Debug, PartialEq, Eq)]
+pub struct UnknownKind {
+    pub number: u16,
 }
+
+impl TryFrom<u16> for Kind {
+    type Error = UnknownKind;
+
+    ghost try_from_gives = { λ number kind. kind ≡ kind_of number };
+
+    #[tactic(auto, unfolding(crate::specs::Panel::kind_of))]
+    fn try_from(number: u16) -> Result<Kind, UnknownKind> {
+        match number {
+            1 => Ok(Kind::Button),
+            2 => Ok(Kind::Touch),
+            _ => Err(UnknownKind { number }),
+        }
+    }
+}
+
+impl fmt::Display for UnknownKind {
+    fn fmt<W: fmt::Write>(&self, f: &mut fmt::Formatter<W>) -> fmt::Result {
+        write!(f, "no record has the kind {}", self.number)
+    }
+}
+
+impl Error for UnknownKind {}
 
 // Bounds and corner radii, as the file has them.
 #[derive(Clone, Copy)]
@@ -40,84 +67,102 @@ pub struct Button {
     pub bottom_right: Point,
 }
 
-// Where a button's fields start in its payload.
-#[derive(Drop)]
-struct Fields {
-    min: usize,
-    max: usize,
-    top_left: usize,
-    top_right: usize,
-    bottom_left: usize,
-    bottom_right: usize,
-}
-
 #[derive(Clone, Copy)]
 pub enum Record {
     Button(Button),
     Touch(Point),
 }
 
-// What a record's header shows: a whole record of a kind, the end of the file, or where it is broken.
-#[derive(Drop)]
-enum Head {
-    Whole(Kind),
-    End,
-    Broken(usize),
+// A file that is cut short or too long, or in which a record has an unknown kind or a wrong length:
+// document 01's cause 7.
+#[derive(Clone, Copy, Debug, PartialEq, Eq)]
+pub struct Broken {
+    // Where the first broken record starts.
+    pub offset: usize,
 }
 
-#[derive(Drop)]
-pub enum Read {
-    // A record, and the offset of what follows it.
-    Record(Record, usize),
-    End,
-    // Cause 7, and the offset of the first broken record.
-    Broken(usize),
+impl Broken {
+    // Document 01's number of the cause.
+    pub fn number(self) -> u8
+        ensures { result ≡ 7 }
+    {
+        7
+    }
 }
 
-#[derive(Drop)]
+impl fmt::Display for Broken {
+    fn fmt<W: fmt::Write>(&self, f: &mut fmt::Formatter<W>) -> fmt::Result {
+        write!(f, "the panel file is broken at {}", self.offset)
+    }
+}
+
+impl Error for Broken {}
+
+// How many records of each kind there are.
+#[derive(Clone, Copy, Debug, PartialEq, Eq, Default)]
 pub struct Counts {
     pub buttons: usize,
     pub touches: usize,
 }
 
-#[derive(Drop)]
-pub enum Checked {
-    Good(Counts),
-    // Cause 7, and the offset of the first broken record.
-    Broken(usize),
+impl Record {
+    #[tactic(auto, unfolding(crate::specs::Panel::kind_of_record))]
+    pub fn kind(self) -> Kind
+        ensures { result ≡ kind_of_record self }
+    {
+        match self {
+            Record::Button(_) => Kind::Button,
+            Record::Touch(_) => Kind::Touch,
+        }
+    }
 }
 
+impl Counts {
+    // With one record more.
+    #[tactic(auto, unfolding(crate::specs::Panel::counted_of))]
+    pub fn with(self, kind: Kind) -> Counts
+        requires { (self.buttons < 65536) × (self.touches < 65536) }
+        ensures { result ≡ counted_of self kind }
+    {
+        match kind {
+            Kind::Button => Counts {
+                buttons: self.buttons + 1,
+                ..self
+            },
+            Kind::Touch => Counts {
+                touches: self.touches + 1,
+                ..self
+            },
+        }
+    }
+}
+
+#[tactic(auto, unfolding(crate::specs::Bytes::u16_at))]
 fn u16_at(file: &[u8], at: usize) -> u16
     requires { at + 2 ≤ length file.now }
     ensures { result ≡ u16_at file.now at }
 {
-    (file[at] as u16) + 256 * (file[at + 1] as u16)
+    u16::from_le_bytes([file[at], file[at + 1]])
 }
 
+#[tactic(auto, unfolding(crate::specs::Bytes::u32_at))]
 fn u32_at(file: &[u8], at: usize) -> u32
     requires { at + 4 ≤ length file.now }
     ensures { result ≡ u32_at file.now at }
 {
-    (u16_at(file, at) as u32) + 65536 * (u16_at(file, at + 2) as u32)
+    u32::from(u16_at(file, at)) + 65536 * u32::from(u16_at(file, at + 2))
 }
 
-// Bit for bit; every NaN pattern, the exponent's field all ones and the fraction not 0, is a NaN.
-fn f32_of(bits: u32) -> f32
-    ensures { result ≡ of_bits binary32 bits }
-{
-    if 0x7f80_0000 < bits % 0x8000_0000 {
-        return 0.0 / 0.0;
-    }
-    f32::from_bits(bits)
-}
-
+// Bit for bit; every NaN pattern is a NaN.
+#[tactic(auto, unfolding(crate::specs::Bytes::f32_at))]
 fn f32_at(file: &[u8], at: usize) -> f32
     requires { at + 4 ≤ length file.now }
     ensures { result ≡ f32_at file.now at }
 {
-    f32_of(u32_at(file, at))
+    f32_from_bits_with_nan(u32_at(file, at))
 }
 
+#[tactic(auto, unfolding(crate::specs::Bytes::point_at))]
 fn point_at(file: &[u8], at: usize) -> Point
     requires { at + 8 ≤ length file.now }
     ensures { result ≡ point_at file.now at }
@@ -128,136 +173,89 @@ fn point_at(file: &[u8], at: usize) -> Point
     }
 }
 
-fn kind_of(number: u16) -> KindFound
-    ensures { result ≡ kind_of number }
-{
-    match number {
-        1 => KindFound::Known(Kind::Button),
-        2 => KindFound::Known(Kind::Touch),
-        _ => KindFound::Unknown,
+impl Kind {
+    // The payload's length of each kind.
+    #[tactic(auto, unfolding(crate::specs::Panel::payload_of))]
+    fn payload(self) -> usize
+        ensures { result ≡ payload_of self }
+    {
+        match self {
+            Kind::Button => 48,
+            Kind::Touch => 8,
+        }
     }
 }
 
-// The payload's length of each kind.
-fn payload_of(kind: Kind) -> usize
-    ensures { result ≡ payload_of kind }
-{
-    match kind {
-        Kind::Button => 48,
-        Kind::Touch => 8,
-    }
-}
-
-fn button_fields() -> Fields
-    ensures value { result ≡ button_fields }
-    ensures inside { Inside (payload_of Kind.Button) result }
-{
-    Fields {
-        min: 0,
-        max: 8,
-        top_left: 16,
-        top_right: 24,
-        bottom_left: 32,
-        bottom_right: 40,
-    }
-}
-
+#[tactic(auto, unfolding(crate::specs::Panel::payload_of, crate::specs::Panel::button_at))]
 fn button_at(file: &[u8], at: usize) -> Button
     requires { at + payload_of Kind.Button ≤ length file.now }
     ensures { result ≡ button_at file.now at }
 {
-    let f = button_fields();
     Button {
-        min: point_at(file, at + f.min),
-        max: point_at(file, at + f.max),
-        top_left: point_at(file, at + f.top_left),
-        top_right: point_at(file, at + f.top_right),
-        bottom_left: point_at(file, at + f.bottom_left),
-        bottom_right: point_at(file, at + f.bottom_right),
+        min: point_at(file, at),
+        max: point_at(file, at + 8),
+        top_left: point_at(file, at + 16),
+        top_right: point_at(file, at + 24),
+        bottom_left: point_at(file, at + 32),
+        bottom_right: point_at(file, at + 40),
     }
 }
 
-// The kind of the record at an offset, once its header and its whole payload are there.
-fn head_at(file: &[u8], at: usize) -> Head
+// The kind of the record at an offset, once its header and its whole payload are there; none at the end of the file.
+#[tactic(auto, unfolding(crate::specs::Panel::head_at, crate::specs::Panel::whole_of))]
+fn head_at(file: &[u8], at: usize) -> Result<Option<Kind>, Broken>
     ensures { result ≡ head_at file.now at }
 {
     let n = file.len();
     if LIMIT < n {
-        return Head::Broken(0);
+        return Err(Broken { offset: 0 });
     }
     if n <= at {
-        return Head::End;
+        return Ok(None);
     }
     let left = n - at;
     if left < HEADER {
-        return Head::Broken(at);
+        return Err(Broken { offset: at });
     }
-    let KindFound::Known(kind) = kind_of(u16_at(file, at + 2)) else {
-        return Head::Broken(at);
+    let Ok(kind) = Kind::try_from(u16_at(file, at + 2)) else {
+        return Err(Broken { offset: at });
     };
-    let len = payload_of(kind);
-    if (u16_at(file, at) as usize) != len {
-        return Head::Broken(at);
+    let len = kind.payload();
+    if usize::from(u16_at(file, at)) != len {
+        return Err(Broken { offset: at });
     }
     if HEADER + len <= left {
-        Head::Whole(kind)
+        Ok(Some(kind))
     } else {
-        Head::Broken(at)
+        Err(Broken { offset: at })
     }
 }
 
-// The record at an offset of the file; at the file's length and past it, the end.
-pub fn record_at(file: &[u8], at: usize) -> Read
+// The record at an offset of the file and the offset past it; at the file's length and past it, none.
+#[tactic(auto, unfolding(crate::specs::Panel::read_of, crate::specs::Panel::record_at, crate::specs::Panel::entry_of, crate::specs::Panel::content_at, crate::specs::Panel::payload_of))]
+pub fn record_at(file: &[u8], at: usize) -> Result<Option<(Record, usize)>, Broken>
     ensures { read_of result ≡ record_at file.now at }
 {
-    match head_at(file, at) {
-        Head::Whole(kind) => {
-            let from = at + HEADER;
-            let next = from + payload_of(kind);
-            match kind {
-                Kind::Button => Read::Record(Record::Button(button_at(file, from)), next),
-                Kind::Touch => Read::Record(Record::Touch(point_at(file, from)), next),
-            }
-        }
-        Head::End => Read::End,
-        Head::Broken(o) => Read::Broken(o),
-    }
-}
-
-// The counts with one record more.
-fn counted(c: Counts, kind: Kind) -> Counts
-    requires { (c.buttons < 65536) × (c.touches < 65536) }
-    ensures { result ≡ counted_of c kind }
-{
+    let Some(kind) = head_at(file, at)? else {
+        return Ok(None);
+    };
+    let from = at + HEADER;
+    let next = from + kind.payload();
     match kind {
-        Kind::Button => Counts {
-            buttons: c.buttons + 1,
-            touches: c.touches,
-        },
-        Kind::Touch => Counts {
-            buttons: c.buttons,
-            touches: c.touches + 1,
-        },
+        Kind::Button => Ok(Some((Record::Button(button_at(file, from)), next))),
+        Kind::Touch => Ok(Some((Record::Touch(point_at(file, from)), next))),
     }
 }
 
-// Whether the whole file is good, and how many records of each kind it holds.
-pub fn check(file: &[u8]) -> Checked
+// How many records of each kind the whole file holds, if it is good.
+pub fn check(file: &[u8]) -> Result<Counts, Broken>
     ensures { checked_of result ≡ on_done counts_of (records_of file.now) }
 {
     let mut at = 0;
-    let mut counts = Counts {
-        buttons: 0,
-        touches: 0,
-    };
-    loop {
-        match head_at(file, at) {
-            Head::Whole(kind) => {
-                counts = counted(counts, kind);
-                at = at + HEADER + payload_of(kind);
-            }
-            Head::End => return Checked::Good(counts),
-            Head::Broken(o) => return Checked::Broken(o),
-        }
+    let mut counts = Counts::default();
+    while let Some(kind) = head_at(file, at)? {
+        counts = counts.with(kind);
+        at = at + HEADER + kind.payload();
     }
+    Ok(counts)
 }

@@ -12,7 +12,7 @@ use Rattle.panel_file.specs.declared.Counts.{Counts}
 use Rattle.panel_file.specs.declared.Record.{Record}
 use Rattle.panel_file.specs.declared.Record.TheVariants.{Button as ButtonRecord, Touch as TouchRecord}
 use Rattle.panel_file.specs.Panel.{Answer, done, refused, broken, records_of, records_from, is_done, records_in, touches_of}
-use Rattle.panel_file.proofs.Records.{bytes_of}
+use Rattle.panel_file.proofs.Following.{bytes_of}
 use Rattle.touch.specs.declared.TouchedAll.TheVariants.{Done, Broken as AllBroken}
 use Rattle.touch.specs.Touch.{Place, nowhere_code, code_of, place_of, shapes_of, place_among, places_of, left, left_of, count_of}
 use Rattle.touch.proofs.Marking.{at_none, place_code, seek-below}

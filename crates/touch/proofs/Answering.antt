@@ -1,38 +1,24 @@
 -- The places that the search leaves are those that `touch` gives. Assumes nothing.
 use mathlib.Core.Path.{◌≡◌, ap, ap₂, ◌∙◌}
-use mathlib.Core.Bool.{true}
 use mathlib.Core.List.{List, [], ◌∷◌, ◌++◌}
-use Prim.Native.Nat.{ℕ, ◌+◌, ◌*◌, ◌≤◌}
+use Prim.Native.Nat.{ℕ, ◌*◌, ◌≤◌}
 use native.Mathlib.Omega.{arith}
 use lib.Ieee.{Float}
 use lib.ListN.{length, get_or, take, drop, replicate, length-map, length-replicate}
 use lib.Seq.{take_at, drop_at}
 use Rattle.geometry.specs.declared.Point.{Point}
 use Rattle.panel_file.specs.declared.Record.{Record}
-use Rattle.panel_file.specs.Panel.{done, limit, records_from, records_of, is_done, records_in, buttons_of, touches_of}
-use Rattle.panel_file.proofs.Records.{records_fit, good_short, bytes_of_all}
-use Rattle.panel_file.proofs.Walking.{is-done}
+use Rattle.panel_file.specs.Panel.{buttons_of, touches_of}
+use Rattle.panel_file.proofs.Walking.{count_all}
 use Rattle.touch.specs.Touch.{nowhere, nowhere_code, code_of, place_of, seek, shape_of, shapes_of, place_among, places_of}
 use Rattle.touch.specs.Search.{floats_of, points_in, passes}
 use Rattle.touch.proofs.Marking.{Below, at_none, seek-below, code_most, place_code, passes-places}
 use Rattle.touch.proofs.Gathering.{points-floats}
 
-module _ (file : List ℕ) (good : is_done (records_of file) ≡ true) where
-  abbrev rs : List Record
-  rs = records_in (records_of file)
-
-  -- a good file has few records of each kind
-  pub few : (52 * length (buttons_of rs) + 12 * length (touches_of rs) ≤ length file) × (length file ≤ limit)
-  unfolding records_of bytes_of_all
-  few =
-      let d : records_from file 0 ≡ done rs = is-done (records_from file 0) good in
-      let f = records_fit file 0 rs d in
-      let s = good_short file 0 rs d in
-      omega arith
-
+module _ (rs : List Record) (few : length rs ≤ 5461) where
   pub few_shapes : length (shapes_of rs) ≤ nowhere_code
   unfolding shapes_of
-  few_shapes = let f = few in rw (length-map (buttons_of rs) shape_of) (omega arith)
+  few_shapes = rw (length-map (buttons_of rs) shape_of) (omega (arith, count_all rs, few))
 
   -- floats fs hold the touches' points, and results were cleared before the search
   pub answered : (n : ℕ) (fs : List Float) (cleared results found : List ℕ) → n ≡ length (touches_of rs) → take (2 * length (touches_of rs)) fs ≡ floats_of (touches_of rs)

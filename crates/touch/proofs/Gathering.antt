@@ -10,7 +10,6 @@ use Rattle.geometry.specs.declared.Point.{Point}
 use Rattle.panel_file.specs.declared.Record.{Record}
 use Rattle.panel_file.specs.declared.Record.TheVariants.{Button as ButtonRecord, Touch as TouchRecord}
 use Rattle.panel_file.specs.Panel.{touches_of}
-use Rattle.panel_file.proofs.Records.{bytes_of}
 use Rattle.touch.specs.Search.{floats_of, points_in, next_count, kept_in}
 
 abbrev point : Float → Float → Point
@@ -73,8 +72,8 @@ unfolding kept_in
 kept_length (ButtonRecord q) n fs = refl
 kept_length (TouchRecord p) n fs = simp length-set
 
-pub count_most : (r : Record) (n : ℕ) → 12 * next_count r n ≤ 12 * n + bytes_of r
-unfolding next_count bytes_of
+pub count_most : (r : Record) (n : ℕ) → next_count r n ≤ n + 1
+unfolding next_count
 count_most (ButtonRecord q) n = omega arith
 count_most (TouchRecord p) n = omega arith
 

@@ -1,16 +1,13 @@
 -- Document 01's module 7: which button of a panel file a touch goes to, counted from 0 over the button records. Definitions only.
-use Rattle.std.specs.Prelude.{ℕ, suc, Bool, true, false, cond, List, [], ◌∷◌, ◌++◌, map, length, drop, eqb}
+use Rattle.std.specs.Prelude.{ℕ, suc, Bool, true, false, cond, List, [], ◌∷◌, ◌++◌, map, length, drop, eqb, Option, Some, None, Result, Ok, Err}
 use Rattle.geometry.specs.declared.Point.{Point}
+use Rattle.panel_file.specs.declared.Broken.{Broken}
 use Rattle.panel_file.specs.declared.Button.{Button}
 use Rattle.panel_file.specs.declared.Record.{Record}
 use Rattle.panel_file.specs.Panel.{Answer, done, refused, broken, on_done, records_of, buttons_of, touches_of}
 use Rattle.shape.specs.Refusal.{Outcome, new_of}
 use Rattle.shape.specs.Refusal.{made as Made, refused as Refused}
 use Rattle.containment.specs.Contains.{contains_of}
-use Rattle.touch.specs.declared.Touched.{Touched}
-use Rattle.touch.specs.declared.Touched.TheVariants.{Shape, Nowhere, Broken}
-use Rattle.touch.specs.declared.TouchedAll.{TouchedAll}
-use Rattle.touch.specs.declared.TouchedAll.TheVariants.{Done, Broken as AllBroken}
 
 -- a button's shape, or the number of the cause that refuses it
 unfoldable pub shape_of : Button → Outcome
@@ -51,11 +48,15 @@ place_among rs p = seek p nowhere 0 (shapes_of rs)
 unfoldable pub touch_of : List ℕ → Point → Answer Place
 touch_of file p = on_done (λ rs. place_among rs p) (records_of file)
 
--- what `Touched` says
-unfoldable pub touched_of : Touched → Answer Place
-touched_of (Shape i) = done (button i)
-touched_of Nowhere = done nowhere
-touched_of (Broken o) = broken o
+-- a button's index, or none, as a place
+unfoldable pub placed_of : Option ℕ → Place
+placed_of (Some i) = button i
+placed_of None = nowhere
+
+-- what `touch` answers
+unfoldable pub touched_of : Result (Option ℕ) Broken → Answer Place
+touched_of (Ok found) = done (placed_of found)
+touched_of (Err b) = broken b.offset
 
 -- ---- all touches of a file at once
 
@@ -86,7 +87,7 @@ left_of results (refused n o) = left (refused n o) results
 unfoldable pub touch_all_of : List ℕ → List ℕ → Left
 touch_all_of file results = left_of results (records_of file)
 
--- what `TouchedAll` says
-unfoldable pub count_of : TouchedAll → Answer ℕ
-count_of (Done n) = done n
-count_of (AllBroken o) = broken o
+-- what `touch_all` answers
+unfoldable pub count_of : Result ℕ Broken → Answer ℕ
+count_of (Ok n) = done n
+count_of (Err b) = broken b.offset

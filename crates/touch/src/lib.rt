@@ -3,42 +3,28 @@
 
 #![tactic(auto)]
 
-ghost use Rattle.std.specs.Prelude.{◌≡◌, true, false, ◌+◌, ◌*◌, ◌<◌, ◌≤◌, ◌++◌, length, take, drop, replicate};
+ghost use Rattle.std.specs.Prelude.{◌≡◌, true, false, ◌+◌, ◌*◌, ◌<◌, ◌≤◌, ◌++◌, length, take, drop};
 ghost use Rattle.shape.specs.Refusal.{outcome_of};
 ghost use Rattle.containment.specs.Contains.{contains_of};
 ghost use Rattle.containment.specs.Arcs.{misses_of};
-ghost use Rattle.panel_file.specs.Panel.{done, records_of, is_done, records_in, touches_of};
-ghost use Rattle.touch.specs.Touch.{nowhere_code, code_of, place_of, settle, shape_of, shapes_of, takes, place_among, touched_of, touch_of, left, count_of, places_of, touch_all_of};
+ghost use Rattle.panel_file.specs.Panel.{touches_of};
+ghost use Rattle.panel_file.specs.File.{records};
+ghost use Rattle.touch.specs.Touch.{code_of, place_of, settle, shape_of, shapes_of, takes, place_among, placed_of, touched_of, touch_of, left, count_of, places_of, touch_all_of};
 ghost use Rattle.touch.specs.Search.{points_in, marked, passes, next_index, looked_at, floats_of, next_count, kept_in};
 
 use containment::{Arcs, contains};
 use geometry::Point;
-use panel_file::{Button, Checked, Read, Record};
+use panel_file::{Broken, Button, PanelFile, Record};
 use shape::{Bounds, CornerRadii, RoundSuperellipse, ShapeError};
 
-// The most touches that a file of 65,536 bytes holds, and what stands for a touch that goes nowhere.
+// The most touches that a file of 65,536 bytes holds.
 pub const MOST_TOUCHES: usize = 5461;
 
+// Stays a number: the exported call lends numbers for the results, and this one says that a touch goes nowhere.
 pub const NOWHERE: u32 = 0xffff_ffff;
 
-#[derive(Drop)]
-pub enum Touched {
-    // The button's index.
-    Shape(usize),
-    Nowhere,
-    // Cause 7, and the offset of the first broken record.
-    Broken(usize),
-}
-
-#[derive(Drop)]
-pub enum TouchedAll {
-    // How many touches the file has.
-    Done(usize),
-    // Cause 7, and the offset of the first broken record.
-    Broken(usize),
-}
-
 // A button's shape, or why it has none.
+#[tactic(auto, unfolding(crate::specs::Touch::shape_of))]
 pub fn shape_of(button: Button) -> Result<RoundSuperellipse, ShapeError>
     ensures { outcome_of result ≡ shape_of button }
 {
@@ -59,15 +45,6 @@ pub fn shape_of(button: Button) -> Result<RoundSuperellipse, ShapeError>
     )
 }
 
-fn flag(c: bool) -> usize
-    ensures { result < 2 }
-{
-    if c {
-        return 1;
-    }
-    0
-}
-
 // Which corner's arcs to try for p: those of the side of `center` where p lies. Another corner would cost time, never
 // a wrong answer.
 fn nearest(same: bool, center: Point, p: Point) -> usize
@@ -76,11 +53,12 @@ fn nearest(same: bool, center: Point, p: Point) -> usize
     if same {
         return 0;
     }
-    2 * flag(p.x < center.x) + flag(p.y >= center.y)
+    2 * usize::from(p.x < center.x) + usize::from(p.y >= center.y)
 }
 
 // Where a touch goes, with one shape more looked at: the first that contains it keeps it. Nearly every touch is told by
 // the arcs of one corner to lie outside.
+#[tactic(auto, unfolding(crate::specs::Touch::code_of, crate::specs::Touch::place_of, crate::specs::Touch::settle))]
 fn settled(found: u32, index: u32, shape: RoundSuperellipse, arcs: Arcs, p: Point) -> u32
     requires { misses_of arcs shape.all_corners_same p ≡ true → contains_of shape p ≡ false }
     ensures { result ≡ code_of (settle (place_of found) index (contains_of shape p)) }
@@ -105,15 +83,13 @@ fn mark(shape: RoundSuperellipse, index: u32, points: &[f32], results: &mut [u32
     let arcs = containment::all_arcs(shape);
     let same = shape.all_corners_same;
     let first = arcs[0];
-    let mut i = 0;
-    while i < results.len() {
+    for i in 0..results.len() {
         let p = Point {
             x: points[2 * i],
             y: points[2 * i + 1],
         };
         let near = arcs[nearest(same, first.offset, p)];
         results[i] = settled(results[i], index, shape, near, p);
-        i += 1;
     }
 }
 
@@ -137,6 +113,7 @@ fn consider(
 }
 
 // A record is looked at for every touch; the answer is the next button's index.
+#[tactic(auto, unfolding(crate::specs::Search::next_index, crate::specs::Search::looked_at))]
 fn look(record: Record, index: u32, points: &[f32], results: &mut [u32]) -> u32
     requires { (index < 65536) × (length points.now ≡ 2 * length results.old) }
     ensures value { result ≡ next_index «record» index }
@@ -149,47 +126,41 @@ fn look(record: Record, index: u32, points: &[f32], results: &mut [u32]) -> u32
 }
 
 // Every shape of a good file is looked at for every touch: each shape is made once.
-fn search(file: &[u8], points: &[f32], results: &mut [u32])
-    requires { (is_done (records_of file.now) ≡ true) × (length points.now ≡ 2 * length results.old) }
-    ensures { results.new ≡ passes (points_in points.now) 0 (shapes_of (records_in (records_of file.now))) results.old }
+fn search(file: &PanelFile, points: &[f32], results: &mut [u32])
+    requires { length points.now ≡ 2 * length results.old }
+    ensures { results.new ≡ passes (points_in points.now) 0 (shapes_of (records file.now)) results.old }
 {
-    let mut at = 0;
     let mut index = 0;
-    loop {
-        let Read::Record(record, next) = panel_file::record_at(file, at) else {
-            return;
-        };
+    for record in file.records() {
         index = look(record, index, points, results);
-        at = next;
     }
 }
 
 // Where a touch at p goes in a good file.
-fn place(file: &[u8], p: Point) -> Touched
-    requires { is_done (records_of file.now) ≡ true }
-    ensures { touched_of result ≡ done (place_among (records_in (records_of file.now)) p) }
+fn place(file: &PanelFile, p: Point) -> Option<usize>
+    ensures { placed_of result ≡ place_among (records file.now) p }
 {
     let points = [p.x, p.y];
     let mut results = [NOWHERE];
     search(file, &points, &mut results);
     let found = results[0];
     if found == NOWHERE {
-        return Touched::Nowhere;
+        return None;
     }
-    Touched::Shape(found as usize)
+    Some(found as usize)
 }
 
 // Where a touch at p goes, looking through the whole file.
-pub fn touch(file: &[u8], p: Point) -> Touched
+#[tactic(auto, unfolding(crate::specs::Touch::touch_of, crate::specs::Touch::touched_of, panel_file::specs::File::opened_of, panel_file::specs::Panel::on_done))]
+pub fn touch(file: &[u8], p: Point) -> Result<Option<usize>, Broken>
     ensures { touched_of result ≡ touch_of file.now p }
 {
-    match panel_file::check(file) {
-        Checked::Good(_) => place(file, p),
-        Checked::Broken(at) => Touched::Broken(at),
-    }
+    let file = PanelFile::new(file)?;
+    Ok(place(&file, p))
 }
 
 // A record's point behind the n points that are held, if it is a touch; the answer counts them.
+#[tactic(auto, unfolding(crate::specs::Search::next_count, crate::specs::Search::kept_in))]
 fn keep(record: Record, points: &mut [f32], n: usize) -> usize
     requires { 2 * n + 1 < length points.old }
     ensures value { result ≡ next_count «record» n }
@@ -206,52 +177,33 @@ fn keep(record: Record, points: &mut [f32], n: usize) -> usize
 }
 
 // The points of a good file's touches, in file order.
-fn gather(file: &[u8], points: &mut [f32])
-    requires { (is_done (records_of file.now) ≡ true) × (10922 ≤ length points.old) }
-    ensures { take (2 * length (touches_of (records_in (records_of file.now)))) points.new ≡ floats_of (touches_of (records_in (records_of file.now))) }
+fn gather(file: &PanelFile, points: &mut [f32])
+    requires { 10922 ≤ length points.old }
+    ensures { take (2 * length (touches_of (records file.now))) points.new ≡ floats_of (touches_of (records file.now)) }
 {
-    let mut at = 0;
     let mut n = 0;
-    loop {
-        let Read::Record(record, next) = panel_file::record_at(file, at) else {
-            return;
-        };
+    for record in file.records() {
         n = keep(record, points, n);
-        at = next;
-    }
-}
-
-fn clear(results: &mut [u32])
-    ensures { results.new ≡ replicate (length results.old) nowhere_code }
-{
-    let mut i = 0;
-    while i < results.len() {
-        results[i] = NOWHERE;
-        i += 1;
     }
 }
 
 // The answers to the n touches of a good file, in the first n results.
-fn answer(file: &[u8], n: usize, results: &mut [u32])
-    requires { (is_done (records_of file.now) ≡ true) × (n ≡ length (touches_of (records_in (records_of file.now)))) × (n ≤ 5461) × (n ≤ length results.old) }
-    ensures { results.new ≡ places_of (records_in (records_of file.now)) ++ drop n results.old }
+fn answer(file: &PanelFile, n: usize, results: &mut [u32])
+    requires { (n ≡ length (touches_of (records file.now))) × (n ≤ 5461) × (n ≤ length results.old) }
+    ensures { results.new ≡ places_of (records file.now) ++ drop n results.old }
 {
     let mut points = [0.0f32; 10922];
     gather(file, &mut points);
-    clear(&mut results[..n]);
+    results[..n].fill(NOWHERE);
     search(file, &points[..2 * n], &mut results[..n]);
 }
 
 // `touch` for every touch of the file, in file order, each shape made once. Results past the file's touches stay as they were.
-pub fn touch_all(file: &[u8], results: &mut [u32; 5461]) -> TouchedAll
+pub fn touch_all(file: &[u8], results: &mut [u32; 5461]) -> Result<usize, Broken>
     ensures { left (count_of result) results.new ≡ touch_all_of file.now results.old }
 {
-    match panel_file::check(file) {
-        Checked::Good(counts) => {
-            let n = counts.touches;
-            answer(file, n, results);
-            TouchedAll::Done(n)
-        }
-        Checked::Broken(at) => TouchedAll::Broken(at),
-    }
+    let file = PanelFile::new(file)?;
+    let n = file.counts().touches;
+    answer(&file, n, results);
+    Ok(n)
 }

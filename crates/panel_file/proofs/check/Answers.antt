@@ -1,61 +1,57 @@
--- `panel_file::check` meets its contract. Assumes nothing.
-use mathlib.Core.Path.{sym, ap, ◌∙◌}
-use mathlib.Core.List.{◌∷◌}
-use Prim.Native.Nat.{◌+◌, ◌≤◌}
-use native.Mathlib.Omega.{arith}
-use lib.ListN.{length}
-use Rattle.panel_file.specs.declared.Head.TheVariants.{Whole, End, Broken}
-use Rattle.panel_file.specs.Panel.{done, limit, header, payload_of, content_at, entry_of, on_done, followed, records_from, records_of, counts_of, counted_of, checked_of}
-use Rattle.panel_file.proofs.Records.{whole-within, head_follow}
-use Rattle.panel_file.proofs.Counting.{plus, plus_none, plus_all, plus_one, one_more, on_done-after, on_done_same}
+-- `check` meets its contract.
+use Rattle.std.proofs.Common.{sym, ap, ap₂, ◌∙◌, ◌∷◌, ◌+◌, arith, rules, Ok, Err, Some, None}
+use Rattle.panel_file.specs.Panel.{done, header, payload_of, content_at, entry_of, on_done, followed, records_from, records_of, counts_of, counted_of, checked_of}
+use Rattle.panel_file.proofs.Following.{Inside, head_within, head_follow}
+use Rattle.panel_file.proofs.Counting.{counts, plus, plus_none, plus_all, plus_one, one_more, on_done-after, on_done_same}
 use Rattle.panel_file.proofs.check.Goals as goal
-use Rattle.panel_file.proofs.check.Goals.{In-Whole}
+use Rattle.panel_file.proofs.check.Goals.{In-Some}
 
 -- the record lies within the file
-within : (c : In-Whole) →
-    let file = c.args.file.now in
-    (c.loop-kind.at + header + payload_of c.in-Whole.kind ≤ length file) × (length file ≤ limit)
-within c = whole-within c.args.file.now c.loop-kind.at c.in-Whole.kind (sym c.head_at.ensures ∙ c.in-Whole.is)
+within : (c : In-Some) → Inside c.args.file.now c.loop-kind.at c.in-Some.kind
+within c = head_within _ _ _ _ c.in_ok-kind.ensures (ap Ok c.in-Some.is)
 
 pub loop-kind-init : goal.loop-kind-init
 unfolding records_of
-loop-kind-init c = (omega arith, omega arith, on_done_same counts_of (plus _) plus_all (records_from c.args.file.now 0))
+loop-kind-init c =
+    let e = c.default-counts.ensures in
+    let none = ap₂ counts e.0 e.1 in
+    rw none (omega arith, omega arith, on_done_same counts_of (plus _) plus_all (records_from c.args.file.now 0))
 
-pub counted-counts-requires : goal.counted-counts-requires
-counted-counts-requires c = omega (arith, within c)
+pub with-counts-requires : goal.with-counts-requires
+with-counts-requires c = omega (arith, within c)
 
 pub overflow_add-at : goal.overflow_add-at
-overflow_add-at c = omega (arith, within (goal.at.overflow_add-at c).In-Whole)
+overflow_add-at c = omega (arith, within (goal.at.overflow_add-at c).In-Some)
 
-pub overflow_add-at-in-Whole : goal.overflow_add-at-in-Whole
-overflow_add-at-in-Whole c = omega (arith, within (goal.at.overflow_add-at-in-Whole c).In-Whole, c.payload_of.ensures)
+pub overflow_add-at-in-Some : goal.overflow_add-at-in-Some
+overflow_add-at-in-Some c = omega (arith, within (goal.at.overflow_add-at-in-Some c).In-Some, c.payload.ensures)
 
 pub loop-kind-smaller : goal.loop-kind-smaller
-loop-kind-smaller c = omega (arith, within (goal.at.loop-kind-smaller c).In-Whole, c.payload_of.ensures)
+loop-kind-smaller c = omega (arith, within (goal.at.loop-kind-smaller c).In-Some, c.payload.ensures)
 
 pub loop-kind-preserved : goal.loop-kind-preserved
 unfolding entry_of followed
 loop-kind-preserved c =
-    let w = within (goal.at.loop-kind-preserved c).In-Whole in
+    let w = within (goal.at.loop-kind-preserved c).In-Some in
     let file = c.args.file.now in
     let loop = c.loop-kind in
-    let kind = c.in-Whole.kind in
-    rw (c.counted-counts.ensures, c.payload_of.ensures) (
+    let kind = c.in-Some.kind in
+    rw (c.with-counts.ensures, c.payload.ensures) (
       omega arith,
       omega (arith, one_more loop.counts kind),
       loop.invariant.2
-          ∙ ap (on_done (plus loop.counts)) (head_follow file loop.at (Whole kind) (sym c.head_at.ensures ∙ c.in-Whole.is))
+          ∙ ap (on_done (plus loop.counts)) (head_follow file loop.at (Ok (Some kind)) (sym c.in_ok-kind.ensures ∙ ap Ok c.in-Some.is))
           ∙ on_done-after (λ rs. content_at kind file (loop.at + header) ∷ rs) (plus loop.counts) (plus (counted_of loop.counts kind)) (plus_one loop.counts kind file (loop.at + header)) (records_from file (loop.at + header + payload_of kind)),
     )
 
-pub returns-in-End : goal.returns-in-End
+pub returns : goal.returns
 unfolding entry_of followed on_done checked_of
-returns-in-End c =
+returns c =
     let loop = c.loop-kind in
-    sym (loop.invariant.2 ∙ ap (on_done (plus loop.counts)) (head_follow c.args.file.now loop.at End (sym c.head_at.ensures ∙ c.in-End.is)) ∙ ap done (plus_none loop.counts))
+    sym (loop.invariant.2 ∙ ap (on_done (plus loop.counts)) (head_follow c.args.file.now loop.at (Ok None) (sym c.in_ok-kind.ensures ∙ ap Ok c.in_default.is)) ∙ ap done (plus_none loop.counts))
 
-pub returns-in-Broken : goal.returns-in-Broken
+pub returns-in_err-kind : goal.returns-in_err-kind
 unfolding entry_of followed on_done checked_of
-returns-in-Broken c =
+returns-in_err-kind c =
     let loop = c.loop-kind in
-    sym (loop.invariant.2 ∙ ap (on_done (plus loop.counts)) (head_follow c.args.file.now loop.at (Broken c.in-Broken.o) (sym c.head_at.ensures ∙ c.in-Broken.is)))
+    rw (loop.invariant.2 ∙ ap (on_done (plus loop.counts)) (head_follow c.args.file.now loop.at (Err c.in_err-kind.field-0.0) (sym c.in_err-kind.ensures))) (search rules)

@@ -1,34 +1,26 @@
--- `touch::place` meets its contract. Assumes nothing.
-use mathlib.Core.Path.{◌≡◌, sym, ap, ◌∙◌}
-use mathlib.Core.Bool.{true}
-use mathlib.Core.List.{List, [], ◌∷◌}
-use Prim.Native.Nat.{ℕ, ◌≤◌}
-use Rattle.geometry.specs.declared.Point.{Point}
-use native.Mathlib.Omega.{arith}
+-- `touch::place` meets its contract.
+use Rattle.std.proofs.Common.{◌≡◌, ◌≤◌, ℕ, List, [], ◌∷◌, get_or, sym, ap, ◌∙◌}
 use borrow.Author.Tests.{ne_eqb}
-use lib.ListN.{get_or}
-use Rattle.panel_file.specs.Panel.{done, records_of, is_done, records_in}
-use Rattle.touch.specs.Touch.{nowhere_code, shapes_of, place_of, place_among, touched_of}
+use Rattle.geometry.specs.declared.Point.{Point}
+use Rattle.panel_file.specs.declared.file.PanelFile.{PanelFile}
+use Rattle.panel_file.specs.File.{records}
+use Rattle.panel_file.proofs.Opened.{records_few}
+use Rattle.touch.specs.Touch.{nowhere_code, shapes_of, place_of, place_among, placed_of}
 use Rattle.touch.specs.Search.{points_in, passes}
 use Rattle.touch.proofs.Answering.{answered-one}
 use Rattle.touch.proofs.place.Goals as goal
 
 -- what the search leaves of the one touch
-found : (file : List ℕ) (p : Point) (results : List ℕ) → is_done (records_of file) ≡ true
-    → results ≡ passes (points_in (p.x ∷ p.y ∷ [])) 0 (shapes_of (records_in (records_of file))) (nowhere_code ∷ [])
-    → let rs = records_in (records_of file) in
-    let n = get_or results 0 0 in
-    (n ≤ nowhere_code) × (place_of n ≡ place_among rs p)
+found : (f : PanelFile) (p : Point) (results : List ℕ) → results ≡ passes (points_in (p.x ∷ p.y ∷ [])) 0 (shapes_of (records f)) (nowhere_code ∷ [])
+    → let n = get_or results 0 0 in
+    (n ≤ nowhere_code) × (place_of n ≡ place_among (records f) p)
 unfolding points_in
-found file p results good e = answered-one file good p results e
+found f p results e = answered-one (records f) (records_few f) p results e
 
 pub returns-then-found : goal.returns-then-found
-unfolding touched_of place_of
-returns-then-found c = ap done (sym (ap place_of c.if-found.true) ∙ (found c.args.file.now c.args.p c.search.new.results c.requires c.search.ensures).1)
-
-pub overflow_cast-result : goal.overflow_cast-result
-overflow_cast-result c = omega (arith, found c.args.file.now c.args.p c.search.new.results c.requires c.search.ensures)
+unfolding placed_of place_of
+returns-then-found c = sym (ap place_of c.if-found.true) ∙ (found c.args.file.now c.args.p c.search.new.results c.search.ensures).1
 
 pub returns : goal.returns
-unfolding touched_of place_of
-returns c = ap done ((rw (ne_eqb _ _ c.if-found.false)) ∙ (found c.args.file.now c.args.p c.search.new.results c.requires c.search.ensures).1)
+unfolding placed_of place_of
+returns c = (rw (ne_eqb _ _ c.if-found.false)) ∙ (found c.args.file.now c.args.p c.search.new.results c.search.ensures).1

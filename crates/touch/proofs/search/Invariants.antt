@@ -1,18 +1,12 @@
--- `touch::search` meets its contract. Assumes nothing.
-use mathlib.Core.Path.{◌≡◌}
-use mathlib.Core.Bool.{true}
-use Prim.Native.Nat.{◌-◌, ◌≤◌}
-use lib.ListN.{length}
-use Rattle.panel_file.specs.Panel.{records_from, records_of, is_done, records_in}
+-- `touch::search` meets its contract.
+use Rattle.std.proofs.Common.{◌≡◌, ◌+◌, ◌≤◌, length}
+use Rattle.panel_file.specs.File.{records, records_left}
 use Rattle.touch.specs.Touch.{shapes_of}
 use Rattle.touch.specs.Search.{points_in, passes}
 use Rattle.touch.proofs.search.Given as goal
 
--- the shapes from `at` on are still to be looked at
+-- the shapes of the records that are left are still to be looked at
 abbrev pub invariant-loop-record : goal.invariant-loop-record
 invariant-loop-record l =
-    (l.index ≤ l.at) × (length l.results ≡ length l.initial.results) × (is_done (records_from l.file l.at) ≡ true)
-    × (passes (points_in l.points) 0 (shapes_of (records_in (records_of l.file))) l.initial.results ≡ passes (points_in l.points) l.index (shapes_of (records_in (records_from l.file l.at))) l.results)
-
-abbrev pub decreases-loop-record : goal.decreases-loop-record
-decreases-loop-record l = length l.file - l.at
+    (l.index + length (records_left l.record-iterator) ≤ 5461) × (length l.results ≡ length l.initial.results)
+    × (passes (points_in l.points) 0 (shapes_of (records l.file)) l.initial.results ≡ passes (points_in l.points) l.index (shapes_of (records_left l.record-iterator)) l.results)

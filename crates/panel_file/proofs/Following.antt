@@ -10,13 +10,12 @@ use borrow.Author.Tests.{ltb-false, leb-true, leb-false}
 use Rattle.panel_file.specs.Bytes.{u16_at}
 use Rattle.panel_file.specs.declared.Kind.{Kind}
 use Rattle.panel_file.specs.declared.Kind.TheVariants.{Button as button, Touch as touch}
-use Rattle.panel_file.specs.declared.KindFound.{KindFound}
-use Rattle.panel_file.specs.declared.KindFound.TheVariants.{Known, Unknown}
+use Rattle.panel_file.specs.declared.UnknownKind.{UnknownKind}
+use Rattle.panel_file.specs.declared.Broken.{Broken}
+use Rattle.std.proofs.Common.{Option, Some, None, Result, Ok, Err}
 use Rattle.panel_file.specs.declared.Record.{Record}
 use Rattle.panel_file.specs.declared.Record.TheVariants.{Button as ButtonRecord, Touch as TouchRecord}
-use Rattle.panel_file.specs.declared.Head.{Head}
-use Rattle.panel_file.specs.declared.Head.TheVariants.{Whole, End, Broken}
-use Rattle.panel_file.specs.Panel.{Answer, done, refused, limit, header, kind_of, payload_of, whole_of, head_at, content_at, Entry, entry, end, entry_of, record_at, on_done, followed, readings, records_from, buttons_of, touches_of}
+use Rattle.panel_file.specs.Panel.{Answer, done, refused, limit, header, kind_of, payload_of, broken_head, whole_of, head_at, content_at, Entry, entry, end, entry_of, record_at, on_done, followed, readings, records_from, buttons_of, touches_of}
 
 -- the offset past a record, and n where there is none
 abbrev past : ℕ → Answer Entry → ℕ
@@ -27,20 +26,20 @@ past n (refused k o) = n
 -- ---- a record lies within the file
 
 known-fits : (left at : ℕ) (k kind : Kind) (b₁ b₂ : Bool) → leb (header + payload_of k) left ≡ b₂
-    → cond b₁ (cond b₂ (Whole k) (Broken at)) (Broken at) ≡ Whole kind → header + payload_of kind ≤ left
+    → cond b₁ (cond b₂ (Ok (Some k)) (broken_head at)) (broken_head at) ≡ Ok (Some kind) → header + payload_of kind ≤ left
 known-fits left at k kind true true q e =
     let same : k ≡ kind = cc in rw (ap payload_of same) at (leb-true (header + payload_of k) left q)
 known-fits left at k kind true false q e = let z : ◌≡◌ {A = ℕ} 0 1 = cc in absurd (omega arith)
 known-fits left at k kind false b₂ q e = let z : ◌≡◌ {A = ℕ} 0 1 = cc in absurd (omega arith)
 
-found-fits : (found : KindFound) (len left at : ℕ) (kind : Kind) → whole_of found len left at ≡ Whole kind → header + payload_of kind ≤ left
+found-fits : (found : Result Kind UnknownKind) (len left at : ℕ) (kind : Kind) → whole_of found len left at ≡ Ok (Some kind) → header + payload_of kind ≤ left
 unfolding whole_of
-found-fits (Known k) len left at kind e = known-fits left at k kind (eqb len (payload_of k)) (leb (header + payload_of k) left) refl e
-found-fits Unknown len left at kind e = let z : ◌≡◌ {A = ℕ} 0 1 = cc in absurd (omega arith)
+found-fits (Ok k) len left at kind e = known-fits left at k kind (eqb len (payload_of k)) (leb (header + payload_of k) left) refl e
+found-fits (Err u) len left at kind e = let z : ◌≡◌ {A = ℕ} 0 1 = cc in absurd (omega arith)
 
 module _ (file : List ℕ) (at : ℕ) (kind : Kind) where
   fits_by : (b₁ b₂ b₃ : Bool) → ltb limit (length file) ≡ b₁ → leb (length file) at ≡ b₂
-      → cond b₁ (Broken 0) (cond b₂ End (cond b₃ (Broken at) (whole_of (kind_of (u16_at file (at + 2))) (u16_at file at) (length file - at) at))) ≡ Whole kind
+      → cond b₁ (broken_head 0) (cond b₂ (Ok None) (cond b₃ (broken_head at) (whole_of (kind_of (u16_at file (at + 2))) (u16_at file at) (length file - at) at))) ≡ Ok (Some kind)
       → (at + header + payload_of kind ≤ length file) × (length file ≤ limit)
   fits_by true b₂ b₃ q₁ q₂ e = let z : ◌≡◌ {A = ℕ} 0 1 = cc in absurd (omega arith)
   fits_by false true b₃ q₁ q₂ e = let z : ◌≡◌ {A = ℕ} 0 1 = cc in absurd (omega arith)
@@ -51,20 +50,20 @@ module _ (file : List ℕ) (at : ℕ) (kind : Kind) where
       let f = found-fits (kind_of (u16_at file (at + 2))) (u16_at file at) (length file - at) at kind e in
       omega arith
 
-  pub whole-within : head_at file at ≡ Whole kind → (at + header + payload_of kind ≤ length file) × (length file ≤ limit)
+  pub whole-within : head_at file at ≡ Ok (Some kind) → (at + header + payload_of kind ≤ length file) × (length file ≤ limit)
   unfolding head_at
   whole-within e = fits_by (ltb limit (length file)) (leb (length file) at) (ltb (length file - at) header) refl refl e
 
 -- what reading a record says, for a head that is any of the three
-entry-within : (file : List ℕ) (at : ℕ) (r : Record) (next : ℕ) (head : Head) → head_at file at ≡ head → entry_of file at head ≡ done (entry r next)
+entry-within : (file : List ℕ) (at : ℕ) (r : Record) (next : ℕ) (head : Result (Option Kind) Broken) → head_at file at ≡ head → entry_of file at head ≡ done (entry r next)
     → (at < next) × (next ≤ length file) × (length file ≤ limit)
 unfolding entry_of
-entry-within file at r next (Whole kind) q e =
+entry-within file at r next (Ok (Some kind)) q e =
     let h = whole-within file at kind q in
     let n : at + header + payload_of kind ≡ next = ap (past 0) e in
     omega arith
-entry-within file at r next End q e = let z : ◌≡◌ {A = ℕ} 0 1 = cc in absurd (omega arith)
-entry-within file at r next (Broken o) q e = let z : ◌≡◌ {A = ℕ} 0 1 = cc in absurd (omega arith)
+entry-within file at r next (Ok None) q e = let z : ◌≡◌ {A = ℕ} 0 1 = cc in absurd (omega arith)
+entry-within file at r next (Err o) q e = let z : ◌≡◌ {A = ℕ} 0 1 = cc in absurd (omega arith)
 
 pub record_within : (file : List ℕ) (at : ℕ) (r : Record) (next : ℕ) → record_at file at ≡ done (entry r next)
     → (at < next) × (next ≤ length file) × (length file ≤ limit)
@@ -99,9 +98,9 @@ records_follow file at =
     further (readings (length file - at) file) (records_from file) file at (record_at file at) refl
     (λ next a b. enough (length file - at) (suc (length file - next)) file next (omega arith) (omega arith))
 
-pub head_follow : (file : List ℕ) (at : ℕ) (head : Head) → head_at file at ≡ head → records_from file at ≡ followed (records_from file) (entry_of file at head)
+pub head_follow : (file : List ℕ) (at : ℕ) (head : Result (Option Kind) Broken) → head_at file at ≡ head → records_from file at ≡ followed (records_from file) (entry_of file at head)
 unfolding record_at
-head_follow file at head e = records_follow file at ∙ ap (λ (h : Head). followed (records_from file) (entry_of file at h)) e
+head_follow file at head e = records_follow file at ∙ ap (λ (h : Result (Option Kind) Broken). followed (records_from file) (entry_of file at h)) e
 
 -- ---- how many bytes the records take
 
@@ -119,15 +118,15 @@ unfolding payload_of content_at bytes_of
 content_bytes button file at = refl
 content_bytes touch file at = refl
 
-entry-bytes : (file : List ℕ) (at : ℕ) (r : Record) (next : ℕ) (head : Head) → entry_of file at head ≡ done (entry r next) → next ≡ at + bytes_of r
+entry-bytes : (file : List ℕ) (at : ℕ) (r : Record) (next : ℕ) (head : Result (Option Kind) Broken) → entry_of file at head ≡ done (entry r next) → next ≡ at + bytes_of r
 unfolding entry_of
-entry-bytes file at r next (Whole kind) e =
+entry-bytes file at r next (Ok (Some kind)) e =
     let n : at + header + payload_of kind ≡ next = ap (past 0) e in
     let same : content_at kind file (at + header) ≡ r = cc in
     let b = content_bytes kind file (at + header) ∙ ap bytes_of same in
     omega arith
-entry-bytes file at r next End e = let z : ◌≡◌ {A = ℕ} 0 1 = cc in absurd (omega arith)
-entry-bytes file at r next (Broken o) e = let z : ◌≡◌ {A = ℕ} 0 1 = cc in absurd (omega arith)
+entry-bytes file at r next (Ok None) e = let z : ◌≡◌ {A = ℕ} 0 1 = cc in absurd (omega arith)
+entry-bytes file at r next (Err o) e = let z : ◌≡◌ {A = ℕ} 0 1 = cc in absurd (omega arith)
 
 pub record_bytes : (file : List ℕ) (at : ℕ) (r : Record) (next : ℕ) → record_at file at ≡ done (entry r next) → next ≡ at + bytes_of r
 unfolding record_at
@@ -178,10 +177,18 @@ records_fit file at rs q = readings_fit (suc (length file - at)) file at rs q
 short_by : (file : List ℕ) (at : ℕ) (rs : List Record) (b : Bool) → ltb limit (length file) ≡ b → records_from file at ≡ done rs → length file ≤ limit
 unfolding head_at entry_of followed
 short_by file at rs true e q =
-    let r : records_from file at ≡ refused 7 0 = head_follow file at (Broken 0) (rw e) in
+    let r : records_from file at ≡ refused 7 0 = head_follow file at (broken_head 0) (rw e) in
     let z : ◌≡◌ {A = ℕ} 0 1 = cc in
     absurd (omega arith)
 short_by file at rs false e q = ltb-false limit (length file) e
 
 pub good_short : (file : List ℕ) (at : ℕ) (rs : List Record) → records_from file at ≡ done rs → length file ≤ limit
 good_short file at rs q = short_by file at rs (ltb limit (length file)) refl q
+
+-- the same as a record, where the head was read
+pub record Inside (file : List ℕ) (at : ℕ) (kind : Kind) : Type 0 where
+  pub past : at + header + payload_of kind ≤ length file
+  pub short : length file ≤ limit
+
+pub head_within : (file : List ℕ) (at : ℕ) (kind : Kind) (head : Result (Option Kind) Broken) → head ≡ head_at file at → head ≡ Ok (Some kind) → Inside file at kind
+head_within file at kind head e q = let w = whole-within file at kind (sym e ∙ q) in record { past = w.0; short = w.1 }

@@ -1,0 +1,71 @@
+// A panel file that is known to be good, and its records one by one.
+
+ghost use Rattle.std.specs.Prelude.{◌≡◌, true, ◌≤◌, length};
+ghost use Rattle.panel_file.specs.Panel.{records_of, records_from, records_in, is_done, counts_of};
+
+use crate::{Broken, Counts, Record, check, record_at};
+
+// The bytes of a file that was checked.
+#[derive(Clone, Copy)]
+pub struct PanelFile<'a> {
+    bytes: &'a [u8],
+    counts: Counts,
+    ghost good: { is_done (records_of bytes.now) ≡ true },
+    ghost counted: { counts ≡ counts_of (records_in (records_of bytes.now)) },
+}
+
+impl<'a> PanelFile<'a> {
+    ghost use Rattle.panel_file.specs.File.{records, opened_of, records_left};
+    ghost use Rattle.panel_file.specs.Panel.{touches_of};
+
+    pub fn new(bytes: &'a [u8]) -> Result<PanelFile<'a>, Broken>
+        ensures { opened_of result ≡ records_of bytes.now }
+    {
+        let counts = check(bytes)?;
+        Ok(PanelFile { bytes, counts })
+    }
+
+    pub fn counts(&self) -> Counts
+        ensures value { result ≡ counts_of (records self.now) }
+        ensures most { result.touches ≤ 5461 }
+    {
+        self.counts
+    }
+
+    pub fn records(&self) -> Records<'a>
+        ensures value { records_left result ≡ records self.now }
+        ensures most { length (records self.now) ≤ 5461 }
+    {
+        Records {
+            bytes: self.bytes,
+            at: 0,
+        }
+    }
+}
+
+// The records from an offset of a good file on.
+#[derive(Drop)]
+pub struct Records<'a> {
+    bytes: &'a [u8],
+    at: usize,
+    ghost good: { is_done (records_from bytes.now at) ≡ true },
+}
+
+impl Iterator for Records<'_> {
+    ghost use Rattle.std.specs.Iterator.{YieldsFirst, item_count};
+    ghost use Rattle.panel_file.specs.File.{records_left};
+
+    type Item = Record;
+
+    ghost next_gives = { YieldsFirst records_left };
+
+    ghost remaining = { item_count records_left };
+
+    fn next(&mut self) -> Option<Record> {
+        let Ok(Some((record, next))) = record_at(self.bytes, self.at) else {
+            return None;
+        };
+        self.at = next;
+        Some(record)
+    }
+}
