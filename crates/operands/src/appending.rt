@@ -1,95 +1,79 @@
 // The floats and the bytes that a line spells, behind those that a buffer holds. The answer is how many are
-// held then: one more than there is room for, where a word spells none or finds no room.
-ghost use Rattle.std.specs.Prelude.{◌≡◌};
+// held then: none where a word spells none or finds no room.
+ghost use Rattle.std.specs.Prelude.{◌≡◌, ℕ, List, length, Some, None};
 ghost use Rattle.operands.specs.Operands.{over_words};
-ghost use Rattle.operands.specs.Appending.{filled, with_float, with_byte, with_bytes, with_word, with_floats, with_verbs};
+ghost use Rattle.operands.specs.Appending.{Filled, filled, overfull, with_float, with_byte, with_word, no_float_more, no_byte_more};
 
-use text::{Number, Single};
+// What a word of a line puts into a buffer.
+pub trait Element: Copy {
+    ghost with_word: { Filled Self → List ℕ → Filled Self };
 
-fn push_float(word: &[u8], floats: &mut [f32], held: usize) -> usize
-    ensures { filled result floats.new ≡ with_float (filled held floats.old) word.now }
-{
-    let s = text::read_single(word);
-    let Single::Of(x) = s else {
-        return floats.len() + 1;
-    };
-    if held >= floats.len() {
-        return floats.len() + 1;
-    }
-    floats[held] = x;
-    held + 1
+    fn push_word(word: &[u8], buffer: &mut [Self], held: usize) -> Option<usize>
+        ensures { filled result buffer.new ≡ with_word (filled (Some held) buffer.old) word.now };
+
+    // Nothing goes in behind what did not go in.
+    ghost stays: { (l : List Self) (word : List ℕ) → with_word (filled None l) word ≡ filled None l };
 }
 
-// The first n words.
-fn push_some_floats(line: &[u8], floats: &mut [f32], held: usize, n: usize) -> usize
-    ensures { filled result floats.new ≡ over_words with_float n (filled held floats.old) line.now }
-{
-    if n == 0 {
-        return held;
+impl Element for f32 {
+    ghost with_word = { with_float };
+
+    ghost stays = { no_float_more };
+
+    #[tactic(auto, unfolding(crate::specs::Appending::with_float, crate::specs::Appending::with_single, crate::specs::Appending::with_one_at))]
+    fn push_word(word: &[u8], floats: &mut [f32], held: usize) -> Option<usize> {
+        let x = text::read_float(word)?;
+        if held >= floats.len() {
+            return None;
+        }
+        floats[held] = x;
+        Some(held + 1)
     }
-    let word = text::first_word(line);
-    if word.len() == 0 {
-        return held;
-    }
-    let next = push_float(word, floats, held);
-    push_some_floats(text::after_word(line), floats, next, n - 1)
 }
 
-// No line has more words than bytes.
-pub fn push_floats(line: &[u8], floats: &mut [f32], held: usize) -> usize
-    ensures { filled result floats.new ≡ with_floats (filled held floats.old) line.now }
+// The byte that two digits spell.
+#[tactic(auto, unfolding(crate::specs::Appending::with_byte, crate::specs::Appending::with_number, crate::specs::Appending::with_one_at))]
+fn push_byte(digits: &[u8], verbs: &mut [u8], held: usize) -> Option<usize>
+    ensures { filled result verbs.new ≡ with_byte (filled (Some held) verbs.old) digits.now }
 {
-    push_some_floats(line, floats, held, line.len())
-}
-
-fn push_byte(digits: &[u8], verbs: &mut [u8], held: usize) -> usize
-    ensures { filled result verbs.new ≡ with_byte (filled held verbs.old) digits.now }
-{
-    let s = text::read_hexadecimal(digits);
-    let Number::Of(b) = s else {
-        return verbs.len() + 1;
-    };
+    let b = text::read_number(digits, 16)?;
     if held >= verbs.len() {
-        return verbs.len() + 1;
+        return None;
     }
     // two digits spell no more
     verbs[held] = (b % 256) as u8;
-    held + 1
+    Some(held + 1)
 }
 
-// The first n bytes of a word, two digits each.
-fn push_bytes(word: &[u8], verbs: &mut [u8], held: usize, n: usize) -> usize
-    ensures { filled result verbs.new ≡ with_bytes n (filled held verbs.old) word.now }
-{
-    if n == 0 {
-        return held;
+// Two digits a byte.
+impl Element for u8 {
+    ghost with_word = { with_word };
+
+    ghost stays = { no_byte_more };
+
+    fn push_word(word: &[u8], verbs: &mut [u8], held: usize) -> Option<usize> {
+        let mut held = held;
+        let mut rest = word;
+        while let Some((digits, tail)) = rest.split_at_checked(2) {
+            held = push_byte(digits, verbs, held)?;
+            rest = tail;
+        }
+        if !rest.is_empty() {
+            return None;
+        }
+        Some(held)
     }
-    if word.len() == 0 {
-        return held;
-    }
-    if word.len() == 1 {
-        return verbs.len() + 1;
-    }
-    let next = push_byte(&word[..2], verbs, held);
-    push_bytes(&word[2..], verbs, next, n - 1)
 }
 
-fn push_some_verbs(line: &[u8], verbs: &mut [u8], held: usize, n: usize) -> usize
-    ensures { filled result verbs.new ≡ over_words with_word n (filled held verbs.old) line.now }
+// All words of a line.
+pub fn push<T: Element>(line: &[u8], buffer: &mut [T], held: usize) -> Option<usize>
+    ensures { filled result buffer.new ≡ over_words T.with_word (length line.now) (filled (Some held) buffer.old) line.now }
 {
-    if n == 0 {
-        return held;
+    let mut held = held;
+    let mut rest = line;
+    while let Some((word, tail)) = text::split_word(rest) {
+        held = T::push_word(word, buffer, held)?;
+        rest = tail;
     }
-    let word = text::first_word(line);
-    if word.len() == 0 {
-        return held;
-    }
-    let next = push_bytes(word, verbs, held, word.len());
-    push_some_verbs(text::after_word(line), verbs, next, n - 1)
-}
-
-pub fn push_verbs(line: &[u8], verbs: &mut [u8], held: usize) -> usize
-    ensures { filled result verbs.new ≡ with_verbs (filled held verbs.old) line.now }
-{
-    push_some_verbs(line, verbs, held, line.len())
+    Some(held)
 }

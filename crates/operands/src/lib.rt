@@ -2,81 +2,77 @@
 
 #![tactic(auto)]
 
-ghost use Rattle.std.specs.Prelude.{◌≡◌};
-ghost use Rattle.operands.specs.Operands.{with_next, over_words, operands_of, bounds_of, radii_of};
+ghost use Rattle.std.specs.Prelude.{◌≡◌, get_or};
+ghost use Rattle.std.specs.Option.{option_map};
+ghost use Rattle.std.specs.Float.{nan};
+ghost use Rattle.operands.specs.Operands.{with_next, operands_of, point_at, bounds_of, radii_of};
 
 mod appending;
 
-pub use appending::{push_floats, push_verbs};
+pub use appending::{Element, push};
+use arrayvec::ArrayVec;
 use geometry::Point;
 use shape::{Bounds, CornerRadii};
-use text::Single;
 
-// Up to 14 singles. A count of 15 says that a word is no single, or that there are more.
-#[derive(Drop)]
-pub struct Operands {
-    pub count: usize,
-    pub x: [f32; 14],
-}
+// Up to 14 singles.
+pub type Operands = ArrayVec<f32, 14>;
 
-fn with_next(o: Operands, word: &[u8]) -> Operands
-    ensures { result ≡ with_next o word.now }
+#[tactic(auto, unfolding(crate::specs::Operands::with_next, crate::specs::Operands::with_single))]
+fn push_next(x: &mut Operands, word: &[u8]) -> Option<()>
+    ensures { with_next (Some x.old.items) word.now ≡ option_map (λ _. x.new.items) result }
 {
-    let n = o.count;
-    let mut x = o.x;
-    let s = text::read_single(word);
-    let Single::Of(v) = s else {
-        return Operands { count: 15, x };
-    };
-    if n >= 14 {
-        return Operands { count: 15, x };
-    }
-    x[n] = v;
-    Operands { count: n + 1, x }
+    let v = text::read_float(word)?;
+    x.try_push(v).ok()
 }
 
-// Behind the operands o those of the first n words.
-fn read_from(o: Operands, line: &[u8], n: usize) -> Operands
-    ensures { result ≡ over_words with_next n o line.now }
+// None where a word is no single, or there are more than 14.
+pub fn read(line: &[u8]) -> Option<Operands>
+    ensures { option_map (λ x. x.items) result ≡ operands_of line.now }
 {
-    if n == 0 {
-        return o;
+    let mut x = ArrayVec::new();
+    let mut rest = line;
+    while let Some((word, tail)) = text::split_word(rest) {
+        push_next(&mut x, word)?;
+        rest = tail;
     }
-    let word = text::first_word(line);
-    if word.len() == 0 {
-        return o;
-    }
-    let p = with_next(o, word);
-    read_from(p, text::after_word(line), n - 1)
+    Some(x)
 }
 
-// A line has too many words if it has 15.
-pub fn read(line: &[u8]) -> Operands
-    ensures { result ≡ operands_of line.now }
+// The i-th, or a NaN where there are not so many.
+fn at(x: &[f32], i: usize) -> f32
+    ensures { result ≡ get_or x.now i nan }
 {
-    let o = Operands {
-        count: 0,
-        x: [0.0; 14],
-    };
-    read_from(o, line, 15)
+    x.get(i).copied().unwrap_or(f32::NAN)
 }
 
-pub fn bounds(x: [f32; 14]) -> Bounds
-    ensures { result ≡ bounds_of x }
+// The point of operands i and i + 1.
+pub fn point(x: &[f32], i: u8) -> Point
+    ensures { result ≡ point_at x.now i }
+{
+    Point {
+        x: at(x, usize::from(i)),
+        y: at(x, usize::from(i) + 1),
+    }
+}
+
+#[tactic(auto, unfolding(crate::specs::Operands::bounds_of))]
+pub fn bounds(x: &[f32]) -> Bounds
+    ensures { result ≡ bounds_of x.now }
 {
     Bounds {
-        min: Point { x: x[0], y: x[1] },
-        max: Point { x: x[2], y: x[3] },
+        min: point(x, 0),
+        max: point(x, 2),
     }
 }
 
-pub fn radii(x: [f32; 14]) -> CornerRadii
-    ensures { result ≡ radii_of x }
+#[tactic(auto, unfolding(crate::specs::Operands::radii_of))]
+pub fn radii(x: &[f32]) -> CornerRadii
+    ensures { result ≡ radii_of x.now }
 {
     CornerRadii {
-        top_left: Point { x: x[4], y: x[5] },
-        top_right: Point { x: x[6], y: x[7] },
-        bottom_left: Point { x: x[8], y: x[9] },
-        bottom_right: Point { x: x[10], y: x[11] },
+        top_left: point(x, 4),
+        top_right: point(x, 6),
+        bottom_left: point(x, 8),
+        bottom_right: point(x, 10),
     }
 }

@@ -1,5 +1,6 @@
 -- The words of a line of text, and where a line ends. A line is the list of its bytes. Definitions only.
-use Rattle.std.specs.Prelude.{ℕ, suc, Bool, false, not, cond, List, [], ◌∷◌, take, drop, eqb}
+use Rattle.std.specs.Prelude.{ℕ, Bool, false, not, cond, List, take, drop, eqb}
+use Rattle.std.specs.List.{prefix_len}
 use Rattle.text.specs.declared.words.Class.{Class}
 use Rattle.text.specs.declared.words.Class.TheVariants.{Blank, Word, Line}
 
@@ -10,9 +11,8 @@ belongs_to Word b = cond (eqb b 32) false (not (eqb b 35))
 belongs_to Line b = not (eqb b 10)
 
 -- how many elements in front pass the test
-unfoldable pub leading_of : (ℕ → Bool) → List ℕ → ℕ
-leading_of p [] = 0
-leading_of p (b ∷ s) = cond (p b) (suc (leading_of p s)) 0
+abbrev pub leading_of : (ℕ → Bool) → List ℕ → ℕ
+leading_of = prefix_len
 
 -- the line without the blanks in front
 unfoldable pub after_blanks : List ℕ → List ℕ

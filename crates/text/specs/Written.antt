@@ -1,7 +1,7 @@
 -- Numbers and floats as text, and what a buffer holds after a text was written into it. Definitions only.
-use Rattle.std.specs.Prelude.{ℕ, zero, suc, ◌+◌, ◌^◌, ◌≡◌, cond, List, ◌++◌, length, take, drop, leb, ltb, Float}
-use Rattle.std.specs.Float.{nan, inf, fin, binary32, binary64}
-use Rattle.std.specs.Float.Ieee.{to_bits}
+use Rattle.std.specs.Prelude.{ℕ, zero, suc, ◌+◌, ◌^◌, ◌≡◌, cond, List, ◌++◌, length, take, drop, leb, ltb, Float, Option, Some, None}
+use Rattle.std.specs.Float.{Format, binary32, binary64}
+use Rattle.std.specs.Float.Ieee.{to_bits, is_nan}
 use Rattle.io.specs.Digits.{last_digits}
 use Rattle.text.specs.Numbers.{nan_text}
 
@@ -31,13 +31,16 @@ places (suc more) k n = cond (ltb n (10 ^ k)) k (places more (suc k) n)
 unfoldable pub decimal_text : ℕ → List ℕ
 decimal_text n = last_digits 10 (places 19 1 n) n
 
--- `nan`, or the hexadecimal digits of the bits
-unfoldable pub single_text : Float → List ℕ
-single_text nan = nan_text
-single_text (inf s) = last_digits 16 8 (to_bits binary32 (inf s))
-single_text (fin s m e) = last_digits 16 8 (to_bits binary32 (fin s m e))
+-- the bits of a float; none of a NaN
+unfoldable pub bits_of : Format → Float → Option ℕ
+bits_of f x = cond (is_nan x) None (Some (to_bits f x))
 
-unfoldable pub double_text : Float → List ℕ
-double_text nan = nan_text
-double_text (inf s) = last_digits 16 16 (to_bits binary64 (inf s))
-double_text (fin s m e) = last_digits 16 16 (to_bits binary64 (fin s m e))
+-- `nan`, or the hexadecimal digits, so many, of the bits
+unfoldable pub float_text : {A : Type 0} → ℕ → (A → Option ℕ) → A → List ℕ
+float_text digits bits x = elim (bits x) [ None ↦ nan_text | Some n ↦ last_digits 16 digits n ]
+
+abbrev pub single_text : Float → List ℕ
+single_text = float_text 8 (bits_of binary32)
+
+abbrev pub double_text : Float → List ℕ
+double_text = float_text 16 (bits_of binary64)

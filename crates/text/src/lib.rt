@@ -3,12 +3,12 @@
 
 #![tactic(auto)]
 
+mod floats;
 mod numbers;
 mod output;
 mod words;
 
-pub use numbers::{
-    Double, Number, Single, read_decimal, read_double, read_hexadecimal, read_single,
-};
-pub use output::{put, put_decimal, put_double, put_hexadecimal, put_single};
-pub use words::{Class, after_word, first_word, leading};
+pub use floats::{FloatWord, Hexadecimal, Spelled, read_float};
+pub use numbers::read_number;
+pub use output::{put, put_decimal};
+pub use words::{Class, leading, split_word};

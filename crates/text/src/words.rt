@@ -1,6 +1,9 @@
 // The words of a line, and where a line ends.
 ghost use Rattle.std.specs.Prelude.{◌≡◌, ◌≤◌, length};
+ghost use Rattle.std.specs.List.{position};
+ghost use Rattle.std.specs.Prelude.{not};
 ghost use Rattle.text.specs.Words.{belongs_to, leading_of, after_blanks, first_word, after_word};
+ghost use Rattle.std.specs.Prelude.{◌<◌, MatchOption, IfSome};
 
 // What a byte of a line may belong to.
 #[derive(Clone, Copy)]
@@ -10,19 +13,24 @@ pub enum Class {
     Line,
 }
 
-fn belongs(class: Class, b: u8) -> bool
-    ensures { result ≡ belongs_to class b }
-{
-    match class {
-        Class::Blank => b == b' ',
-        Class::Word => {
-            if b == b' ' {
-                return false;
-            }
-            b != b'#'
+impl Class {
+    #[tactic(auto, unfolding(crate::specs::Words::belongs_to))]
+    fn takes(self, b: u8) -> bool
+        ensures { result ≡ belongs_to self b }
+    {
+        match self {
+            Class::Blank => b == b' ',
+            Class::Word => b != b' ' && b != b'#',
+            Class::Line => b != b'\n',
         }
-        Class::Line => b != b'\n',
     }
+}
+
+// The place of the first byte that does not belong to the class.
+fn end_of(s: &[u8], class: Class) -> Option<usize>
+    ensures { result ≡ position (λ b. not (belongs_to class b)) s.now }
+{
+    s.iter().position(|&b| !class.takes(b))
 }
 
 // How many bytes in front belong to the class.
@@ -30,38 +38,26 @@ pub fn leading(s: &[u8], class: Class) -> usize
     ensures value { result ≡ leading_of (belongs_to class) s.now }
     ensures upper_bound { result ≤ length s.now }
 {
-    let mut i = 0;
-    while i < s.len() {
-        let inside = belongs(class, s[i]);
-        if !inside {
-            return i;
-        }
-        i += 1;
-    }
-    i
+    end_of(s, class).unwrap_or(s.len())
 }
 
+#[tactic(auto, unfolding(crate::specs::Words::after_blanks))]
 fn after_blanks(s: &[u8]) -> &[u8]
     ensures { result.now ≡ after_blanks s.now }
 {
-    let n = leading(s, Class::Blank);
-    &s[n..]
+    &s[leading(s, Class::Blank)..]
 }
 
-// The first word of a line; empty where there is none.
-pub fn first_word(s: &[u8]) -> &[u8]
-    ensures { result.now ≡ first_word s.now }
+// The first word of a line, and what follows it; none where the line has no word.
+#[tactic(auto, unfolding(crate::specs::Words::first_word, crate::specs::Words::after_word))]
+pub fn split_word(s: &[u8]) -> Option<(&[u8], &[u8])>
+    ensures parts { MatchOption result (length (first_word s.now) ≡ 0) (λ p. (p.0.now ≡ first_word s.now) × (p.1.now ≡ after_word s.now)) }
+    ensures some { IfSome result (λ p. (length (first_word s.now) ≡ 0 → ⊥) × (length p.1.now < length s.now)) }
 {
     let t = after_blanks(s);
     let n = leading(t, Class::Word);
-    &t[..n]
-}
-
-// What follows the first word.
-pub fn after_word(s: &[u8]) -> &[u8]
-    ensures { result.now ≡ after_word s.now }
-{
-    let t = after_blanks(s);
-    let n = leading(t, Class::Word);
-    &t[n..]
+    if n == 0 {
+        return None;
+    }
+    Some(t.split_at(n))
 }
