@@ -3,4 +3,4 @@ use Rattle.containment.proofs.superellipse_contains.Goals as goal
 
 pub returns : goal.returns
 unfolding in_superellipse
-returns c = rw (← c.shrink-p_se.ensures, ← c.pow_pair-powers.ensures.0, ← c.pow_pair-powers.ensures.1)
+returns c = rw (c.powers.ensures, c.shrink-p_se.ensures)
