@@ -5,8 +5,8 @@
 #![tactic(auto)]
 
 ghost use Rattle.std.specs.Prelude.{◌≡◌, ◌+◌, ◌<◌};
-ghost use Rattle.arcs.specs.Conics.{conic_at, capped_degree, superellipse_conic_factors_of, intersection_of, meeting_of, joined_of, superellipse_conics_of};
-ghost use Rattle.arcs.specs.Circle.{arc_points_of, circular_arc_points_of};
+ghost use Rattle.arcs.specs.Conics.{conic_at, capped_degree, superellipse_conic_factors_of, intersection_of, meeting_of, joined_of};
+ghost use Rattle.arcs.specs.Circle.{arc_points_of};
 ghost use Rattle.arcs.specs.Placement.{flipped_of, apply_of};
 
 use geometry::Point;
@@ -50,12 +50,6 @@ pub struct SuperellipseConics {
     pub j: Point,
     pub weight2: f32,
     pub a: Point,
-}
-
-#[derive(Drop)]
-pub struct BothConics {
-    pub first: SuperellipseConics,
-    pub second: SuperellipseConics,
 }
 
 // The map from an octant's own space out to the shape's.
@@ -162,36 +156,6 @@ pub fn meeting(f: ConicFactors, yj_over_a: f32) -> f32
     (1.0 * f.yh_proportion + yj_over_a) / (f.yh_proportion + 1.0)
 }
 
-// The octants p and q of a corner, in step: each power of the one is worked out beside the same power of the other.
-pub fn superellipse_conics(p: Octant, yp: f32, q: Octant, yq: f32) -> BothConics
-    ensures { (result.first ≡ superellipse_conics_of p yp) × (result.second ≡ superellipse_conics_of q yq) }
-{
-    let n = p.se_n;
-    let m = q.se_n;
-    let j = p.circle_start;
-    let i = q.circle_start;
-    let f = superellipse_conic_factors(n, j.x / p.se_a);
-    let g = superellipse_conic_factors(m, i.x / q.se_a);
-    let yh = meeting(f, yp);
-    let yg = meeting(g, yq);
-    let powers = exponential::pow_pair(yh, n, yg, m);
-    let roots = exponential::pow_pair(1.0 - powers.first, 1.0 / n, 1.0 - powers.second, 1.0 / m);
-    let h = Point {
-        x: roots.first * p.se_a,
-        y: yh * p.se_a,
-    };
-    let o = Point {
-        x: roots.second * q.se_a,
-        y: yg * q.se_a,
-    };
-    let at_j = exponential::pow_pair(j.x / j.y, n - 1.0, i.x / i.y, m - 1.0);
-    let at_h = exponential::pow_pair(h.x / h.y, n - 1.0, o.x / o.y, m - 1.0);
-    BothConics {
-        first: joined(p, f, h, -at_h.first, -at_j.first),
-        second: joined(q, g, o, -at_h.second, -at_j.second),
-    }
-}
-
 // The circular arc as a cubic, from the sine and cosine of minus its angle and the tangent of a quarter of it.
 pub fn arc_points(param: Octant, sin: f32, cos: f32, tan: f32) -> [Point; 4]
     ensures { result ≡ arc_points_of param sin cos tan }
@@ -221,15 +185,6 @@ pub fn arc_points(param: Octant, sin: f32, cos: f32, tan: f32) -> [Point; 4]
     let control1 = start + first;
     let control2 = circle_end + second;
     [start, control1, control2, circle_end]
-}
-
-// The circular arc as a cubic: start, two controls, end.
-pub fn circular_arc_points(param: Octant) -> [Point; 4]
-    ensures { result ≡ circular_arc_points_of param }
-{
-    let turn = trigonometry::sin_cos(-param.circle_max_angle);
-    let tan = trigonometry::tan(param.circle_max_angle / 4.0);
-    arc_points(param, turn.sin, turn.cos, tan)
 }
 
 fn flipped(flip: bool, p: Point) -> Point

@@ -24,8 +24,8 @@ fn superellipse_contains(x: f32, y: f32, a: f32, n: f32) -> bool
     ensures { result ≡ in_superellipse (point x y) a n }
 {
     let p_se = Point { x, y } / a;
-    let powers = exponential::pow_pair(p_se.x, n, p_se.y, n);
-    powers.first + powers.second <= 1.0
+    let [x_power, y_power] = exponential::powers([p_se.x, p_se.y], [n, n]);
+    x_power + y_power <= 1.0
 }
 
 // Whether p lies in the octant and before the circle's start.

@@ -13,7 +13,6 @@ ghost use Rattle.corners.specs.Calls.{conic_call, cubic_call, calls_forwards, ca
 use arcs::{Placement, SuperellipseConics};
 use geometry::Point;
 use octant::Octant;
-use octants::FourOctants;
 use quadrant::Quadrant;
 use shape::RoundSuperellipse;
 
@@ -91,16 +90,8 @@ pub struct Outline {
 fn solve(top: Octant, right: Octant) -> BothCurves
     ensures { (result.top ≡ curves_of top) × (result.right ≡ curves_of right) }
 {
-    let top_circle = arcs::circular_arc_points(top);
-    let right_circle = arcs::circular_arc_points(right);
-    let conics = arcs::superellipse_conics(
-        top,
-        top.circle_start.y / top.se_a,
-        right,
-        right.circle_start.y / right.se_a,
-    );
-    let top_conics = conics.first;
-    let right_conics = conics.second;
+    let [top_circle, right_circle] = octants::arcs([top, right]);
+    let [top_conics, right_conics] = octants::conics([top, right]);
     BothCurves {
         top: Curves {
             circle: top_circle,
@@ -284,44 +275,20 @@ fn round_one(param: Quadrant, solved: BothCurves, reverse: bool) -> Corner
     round_corner(param, top, right, reverse, scale)
 }
 
-fn octants_of(p: Quadrant, q: Quadrant) -> FourOctants
-    ensures { result ≡ record { first = p.top; second = p.right; third = q.top; fourth = q.right } }
-{
-    let first = p.top;
-    let second = p.right;
-    let third = q.top;
-    let fourth = q.right;
-    FourOctants {
-        first,
-        second,
-        third,
-        fourth,
-    }
-}
-
 // Four round corners, all eight octants in step.
 fn draw_round(p: Quadrant, q: Quadrant, r: Quadrant, s: Quadrant) -> Corners
     ensures { (calls_of result.first ≡ round_calls p false (mul_of p.signed_scale (point one one))) × (calls_of result.second ≡ round_calls q true (mul_of q.signed_scale (point one one))) × (calls_of result.third ≡ round_calls r false (mul_of r.signed_scale (point one one))) × (calls_of result.fourth ≡ round_calls s true (mul_of s.signed_scale (point one one))) }
 {
-    let right = octants_of(p, q);
-    let left = octants_of(r, s);
-    let arcs = octants::arcs(right, left);
-    let conics = octants::conics(right, left);
-    let top1 = arcs.low.first;
-    let right1 = arcs.low.second;
-    let top2 = arcs.low.third;
-    let right2 = arcs.low.fourth;
-    let top3 = arcs.high.first;
-    let right3 = arcs.high.second;
-    let top4 = arcs.high.third;
-    let right4 = arcs.high.fourth;
-    let c = conics.low;
-    let d = conics.high;
+    let octants = [
+        p.top, p.right, q.top, q.right, r.top, r.right, s.top, s.right,
+    ];
+    let a = octants::arcs(octants);
+    let c = octants::conics(octants);
     Corners {
-        first: round_one(p, both(top1, right1, c.first, c.second), false),
-        second: round_one(q, both(top2, right2, c.third, c.fourth), true),
-        third: round_one(r, both(top3, right3, d.first, d.second), false),
-        fourth: round_one(s, both(top4, right4, d.third, d.fourth), true),
+        first: round_one(p, both(a[0], a[1], c[0], c[1]), false),
+        second: round_one(q, both(a[2], a[3], c[2], c[3]), true),
+        third: round_one(r, both(a[4], a[5], c[4], c[5]), false),
+        fourth: round_one(s, both(a[6], a[7], c[6], c[7]), true),
     }
 }
 

@@ -1,9 +1,10 @@
 -- Where exp and pow have no special case, and the last steps of ln and exp. Cited by the contracts of inner functions. Definitions only.
-use Rattle.std.specs.Prelude.{Bool, not, ◌||◌, Float}
+use Rattle.std.specs.Prelude.{◌≡◌, Bool, not, ◌||◌, Float}
 use Rattle.std.specs.Float.{binary64}
 use Rattle.std.specs.Float.Ieee.{add, mul, lt, eq, ne}
-use Rattle.series.specs.Coefficients.{H, factorial_reciprocal}
+use Rattle.series.specs.Coefficients.{H, odd_reciprocal, factorial_reciprocal}
 use Rattle.exponential.specs.Constants.{two, ln2, hundred, lowest}
+use Rattle.exponential.specs.Logarithm.{ln_of}
 use Rattle.exponential.specs.Power.{zero, one, infinite}
 
 unfoldable pub moderate : Float → Bool
@@ -12,6 +13,10 @@ moderate t = not (ne t t || lt hundred t || lt t lowest)
 -- ln from s, e and the value h of the series
 abbrev pub log_of : Float → Float → Float → Float
 log_of s e h = add binary64 (mul binary64 e ln2) (mul binary64 (mul binary64 two s) h)
+
+-- s and e are what the logarithm of u is worked out from
+abbrev pub SplitAt : Float → Float → Float → Type 0
+SplitAt s e u = log_of s e (H odd_reciprocal (mul binary64 s s) 11) ≡ ln_of u
 
 -- exp of r and of a whole number of times LN2, of which `power` is the power of 2
 unfoldable pub scaled_of : Float → Float → Float

@@ -3,32 +3,24 @@
 
 #![tactic(auto)]
 
-ghost use Rattle.std.specs.Prelude.{◌≡◌, false, cond, T, pos, ◌+ℤ◌, ◌<◌};
+ghost use Rattle.std.specs.Prelude.{◌≡◌, map, All, Float, false, cond, T, pos, ◌+ℤ◌, ◌<◌, ◌^◌};
 ghost use Rattle.std.specs.Float.Ieee.Positive.{positive};
 ghost use Rattle.std.specs.Float.{binary32, binary64, inf};
 ghost use Rattle.std.specs.Float.Ieee.{lt, ne, fits, of_int, minus};
+ghost use Rattle.ieee.specs.Basic.{widen_of};
 ghost use Rattle.exponential.specs.Constants.{hundred, lowest};
 ghost use Rattle.exponential.specs.Logarithm.{ln_at, ln_of};
 ghost use Rattle.exponential.specs.Exponential.{floor_of, within, exp_of};
 ghost use Rattle.exponential.specs.Power.{zero, infinite, main_of, pow_of};
-ghost use Rattle.exponential.specs.Plain.{moderate, scaled_of, plain};
-
-use series::Pair;
+ghost use Rattle.std.specs.Simd.Lanes.{zip2};
+ghost use Rattle.exponential.specs.Plain.{SplitAt, moderate, scaled_of, plain};
+ghost use Rattle.exponential.specs.declared.Reduced.{Reduced};
 
 const LN2: f64 = 0.6931471805599453;
 
 // 2^52 + 2^51 + 1023. A sum of it and a number within 1000 of 0 has no digits below 1: it is rounded
 // to a whole number, and its pattern ends in that number, 1023 more.
 const BIAS: f64 = 6755399441056767.0;
-
-fn ln_at(f: f64, e: f64) -> f64
-    ensures { result ≡ ln_at f e }
-{
-    let s = (f - 1.0) / (f + 1.0);
-    let z = s * s;
-    let c = series::odd_reciprocals();
-    e * LN2 + (2.0 * s) * series::horner(&c[..12], z)
-}
 
 // b - 1023.
 fn unbiased(b: u64) -> f64
@@ -39,7 +31,7 @@ fn unbiased(b: u64) -> f64
 }
 
 // What ln is worked out from: u is f * 2^e, with f from 0.75 and below 1.5.
-#[derive(Drop)]
+#[derive(Clone, Copy)]
 pub struct Parts {
     pub f: f64,
     pub e: f64,
@@ -60,13 +52,34 @@ pub fn parts_of(u: f64) -> Parts
     }
 }
 
-fn ln(u: f64) -> f64
-    requires is_single { T (fits binary32 u) }
-    requires is_positive { T (positive u) }
-    ensures { result ≡ ln_of u }
+// What the logarithm's series is summed at, (f - 1) / (f + 1), and e.
+#[derive(Clone, Copy)]
+struct LogParts {
+    s: f64,
+    e: f64,
+}
+
+fn log_parts_of(b: f32) -> LogParts
+    requires { T (positive b) }
+    ensures { SplitAt result.s result.e (widen_of b) }
 {
-    let p = parts_of(u);
-    ln_at(p.f, p.e)
+    let p = parts_of(ieee::widen(b));
+    LogParts {
+        s: (p.f - 1.0) / (p.f + 1.0),
+        e: p.e,
+    }
+}
+
+// The logarithms of N numbers, in step.
+fn logarithms<const N: usize>(b: [f32; N]) -> [f64; N]
+    requires few { N < 2 ^ 32 }
+    requires above_zero { All (λ (x : Float). T (positive x)) b }
+    ensures { result ≡ map (λ (x : Float). ln_of (widen_of x)) b.entry }
+{
+    let p = lanes::each(b, log_parts_of);
+    let c = series::odd_reciprocals();
+    let h = series::horner(&c[..12], lanes::each(p, |p| p.s * p.s));
+    lanes::pairwise(p, h, |p, h| p.e * LN2 + (2.0 * p.s) * h)
 }
 
 // The greatest whole number not above q, and BIAS more.
@@ -82,7 +95,7 @@ fn biased_floor(q: f64) -> f64
 }
 
 // What exp is worked out from: t is r + g * LN2, and power is 2^g.
-#[derive(Drop)]
+#[derive(Clone, Copy)]
 pub struct Reduced {
     pub r: f64,
     pub power: f64,
@@ -99,6 +112,16 @@ pub fn reduce(t: f64) -> Reduced
     }
 }
 
+// The exponentials of N numbers that are reduced, in step.
+fn scaled<const N: usize>(p: [Reduced; N]) -> [f64; N]
+    requires { N < 2 ^ 32 }
+    ensures { result ≡ map (λ (x : Reduced). scaled_of x.r x.power) p.entry }
+{
+    let c = series::factorial_reciprocals();
+    let h = series::horner(&c[..14], lanes::each(p, |p| p.r));
+    lanes::pairwise(h, p, |h, p| h * p.power)
+}
+
 pub fn exp(t: f64) -> f64
     ensures { result ≡ exp_of t }
 {
@@ -111,9 +134,26 @@ pub fn exp(t: f64) -> f64
     if t < -110.0 {
         return 0.0;
     }
-    let s = reduce(t);
-    let c = series::factorial_reciprocals();
-    series::horner(&c[..14], s.r) * s.power
+    let [e] = scaled([reduce(t)]);
+    e
+}
+
+// Neither a NaN nor so far from 0 that exp is 0 or infinite.
+pub fn is_moderate(t: f64) -> bool
+    ensures { result ≡ moderate t }
+{
+    !((t != t) | (t > 100.0) | (t < -110.0))
+}
+
+// In step where each is moderate.
+fn exponentials<const N: usize>(t: [f64; N]) -> [f64; N]
+    requires { N < 2 ^ 32 }
+    ensures { result ≡ map exp_of t.entry }
+{
+    if lanes::all(t, is_moderate) {
+        return scaled(lanes::each(t, reduce));
+    }
+    lanes::each(t, exp)
 }
 
 fn is_infinite(x: f32) -> bool
@@ -140,11 +180,14 @@ fn infinity_if(c: bool) -> f32
     0.0f32
 }
 
-fn pow_main(b: f32, y: f32) -> f32
-    requires { T (positive b) }
-    ensures { result ≡ main_of b y }
+// The last rule of pow.
+fn main_powers<const N: usize>(b: [f32; N], y: [f32; N]) -> [f32; N]
+    requires few { N < 2 ^ 32 }
+    requires above_zero { All (λ (x : Float). T (positive x)) b }
+    ensures { result ≡ zip2 main_of b.entry y.entry }
 {
-    ieee::narrow(exp(ieee::widen(y) * ln(ieee::widen(b))))
+    let l = logarithms(b);
+    lanes::narrow(exponentials(lanes::pairwise(l, lanes::widen(y), |l, y| y * l)))
 }
 
 pub fn pow(b: f32, y: f32) -> f32
@@ -174,59 +217,8 @@ pub fn pow(b: f32, y: f32) -> f32
     if is_infinite(y) {
         return zero_if((b < 1.0) == (y > 0.0));
     }
-    pow_main(b, y)
-}
-
-// Two powers, worked out in step: each step of the one is made beside the same step of the other.
-#[derive(Drop)]
-pub struct Powers {
-    pub first: f32,
-    pub second: f32,
-}
-
-fn ln_pair(u: f64, v: f64) -> Pair
-    requires first_is_single { T (fits binary32 u) }
-    requires first_is_positive { T (positive u) }
-    requires second_is_single { T (fits binary32 v) }
-    requires second_is_positive { T (positive v) }
-    ensures { (result.first ≡ ln_of u) × (result.second ≡ ln_of v) }
-{
-    let p = parts_of(u);
-    let q = parts_of(v);
-    let s = (p.f - 1.0) / (p.f + 1.0);
-    let t = (q.f - 1.0) / (q.f + 1.0);
-    let c = series::odd_reciprocals();
-    let h = series::horner_pair(&c[..12], s * s, t * t);
-    Pair {
-        first: p.e * LN2 + (2.0 * s) * h.first,
-        second: q.e * LN2 + (2.0 * t) * h.second,
-    }
-}
-
-// Neither a NaN nor so far from 0 that exp is 0 or infinite.
-pub fn is_moderate(t: f64) -> bool
-    ensures { result ≡ moderate t }
-{
-    !((t != t) | (t > 100.0) | (t < -110.0))
-}
-
-fn exp_pair(t: f64, u: f64) -> Pair
-    ensures { (result.first ≡ exp_of t) × (result.second ≡ exp_of u) }
-{
-    if is_moderate(t) & is_moderate(u) {
-        let p = reduce(t);
-        let q = reduce(u);
-        let c = series::factorial_reciprocals();
-        let h = series::horner_pair(&c[..14], p.r, q.r);
-        return Pair {
-            first: h.first * p.power,
-            second: h.second * q.power,
-        };
-    }
-    Pair {
-        first: exp(t),
-        second: exp(u),
-    }
+    let [p] = main_powers([b], [y]);
+    p
 }
 
 // Whether none of pow's rules but the last applies.
@@ -237,27 +229,13 @@ pub fn is_plain(b: f32, y: f32) -> bool
     !((b != b) | (y != y) | (b < 0.0) | (b == 1.0) | (y == 0.0) | (b == 0.0) | infinite)
 }
 
-fn main_pair(a: f32, y: f32, b: f32, z: f32) -> Powers
-    requires first_is_positive { T (positive a) }
-    requires second_is_positive { T (positive b) }
-    ensures { (result.first ≡ main_of a y) × (result.second ≡ main_of b z) }
+// The powers of N bases, each by the exponent at its place. They go in step where none is a special case, so that none waits for another.
+pub fn powers<const N: usize>(b: [f32; N], y: [f32; N]) -> [f32; N]
+    requires { N < 2 ^ 32 }
+    ensures { result ≡ zip2 pow_of b.entry y.entry }
 {
-    let l = ln_pair(ieee::widen(a), ieee::widen(b));
-    let e = exp_pair(ieee::widen(y) * l.first, ieee::widen(z) * l.second);
-    Powers {
-        first: ieee::narrow(e.first),
-        second: ieee::narrow(e.second),
+    if lanes::all(lanes::pairwise(b, y, is_plain), |p| p) {
+        return main_powers(b, y);
     }
-}
-
-pub fn pow_pair(a: f32, y: f32, b: f32, z: f32) -> Powers
-    ensures { (result.first ≡ pow_of a y) × (result.second ≡ pow_of b z) }
-{
-    if is_plain(a, y) & is_plain(b, z) {
-        return main_pair(a, y, b, z);
-    }
-    Powers {
-        first: pow(a, y),
-        second: pow(b, z),
-    }
+    lanes::pairwise(b, y, pow)
 }

@@ -1,234 +1,71 @@
-// Numbers four by four, so that a processor works at several at once: none waits for another. Horner's scheme goes two times
-// four, which is as many as the registers of a processor hold, or four times four where so many are asked for at once.
+// Numbers side by side in an array, each treated alike: none waits for another, so that a processor works at several at once.
+// How many there are is a parameter.
 
 #![tactic(auto)]
 
-ghost use Rattle.std.specs.Prelude.{◌≡◌, Float};
-ghost use Rattle.std.specs.Float.{binary32, binary64};
-ghost use Rattle.std.specs.Float.Ieee.{sub, mul, div};
-ghost use Rattle.series.specs.Horner.{horner_of};
-ghost use Rattle.lanes.specs.Lanes.{one, alike_of, each, pairwise, each_float, pairwise_floats, step_of, widened, narrowed, all_regular};
+ghost use Rattle.std.specs.Prelude.{◌≡◌, ◌<◌, map, All, Bool, slice_index_or};
+ghost use Rattle.std.specs.List.{AllZip, list_all};
+ghost use Rattle.std.specs.Simd.Lanes.{zip2};
+ghost use Rattle.ieee.specs.Basic.{widen_of};
+ghost use Rattle.ieee.specs.Narrow.{narrow_of};
 
-#[derive(Clone, Copy)]
-pub struct Four {
-    pub first: f64,
-    pub second: f64,
-    pub third: f64,
-    pub fourth: f64,
-}
-
-#[derive(Clone, Copy)]
-pub struct Eight {
-    pub low: Four,
-    pub high: Four,
-}
-
-#[derive(Clone, Copy)]
-pub struct Sixteen {
-    pub first: Eight,
-    pub second: Eight,
-}
-
-#[derive(Clone, Copy)]
-pub struct FourFloats {
-    pub first: f32,
-    pub second: f32,
-    pub third: f32,
-    pub fourth: f32,
-}
-
-#[derive(Clone, Copy)]
-pub struct EightFloats {
-    pub low: FourFloats,
-    pub high: FourFloats,
-}
-
-pub fn widen(x: FourFloats) -> Four
-    ensures { result ≡ widened x }
+// What f makes of each.
+pub fn each<A: Copy, B, F: Fn(A) -> B, const N: usize>(x: [A; N], f: F) -> [B; N]
+    requires { All (F.pre f) x }
+    ensures values { AllZip (F.post f) x result }
+    ensures mapped { (g : A → B) → ((a : A) (b : B) → F.post f a b → b ≡ g a) → result ≡ map g x }
 {
-    Four {
-        first: ieee::widen(x.first),
-        second: ieee::widen(x.second),
-        third: ieee::widen(x.third),
-        fourth: ieee::widen(x.fourth),
-    }
+    std::array::from_fn(|i: usize| -> B
+        requires within { i < N }
+        requires callable { (d : A) → F.pre f (slice_index_or x i d) }
+        ensures { (d : A) → F.post f (slice_index_or x i d) result }
+    {
+        f(x[i])
+    })
 }
 
-fn all_regular(x: Four) -> bool
-    ensures { result ≡ all_regular x }
+// What f makes of each two at the same place.
+pub fn pairwise<A: Copy, B: Copy, C, F: Fn(A, B) -> C, const N: usize>(
+    x: [A; N],
+    y: [B; N],
+    f: F,
+) -> [C; N]
+    requires { (a : A) (b : B) → F.pre f a b }
+    ensures { (g : A → B → C) → ((a : A) (b : B) (c : C) → F.post f a b c → c ≡ g a b) → result ≡ zip2 g x y }
 {
-    let low = ieee::is_regular(x.first) & ieee::is_regular(x.second);
-    low & ieee::is_regular(x.third) & ieee::is_regular(x.fourth)
+    std::array::from_fn(|i: usize| -> C
+        requires within { i < N }
+        requires callable { (a : A) (b : B) → F.pre f a b }
+        ensures { (d : A) (e : B) → F.post f (slice_index_or x i d) (slice_index_or y i e) result }
+    {
+        f(x[i], y[i])
+    })
 }
 
-// One test tells whether all four are regular, the usual case. Then none of them branches, and a processor rounds them at once.
-pub fn narrow(x: Four) -> FourFloats
-    ensures { result ≡ narrowed x }
+// Whether f says so of each. By `&`, not `&&`: as many tests, and one branch.
+pub fn all<A: Copy, F: Fn(A) -> bool, const N: usize>(x: [A; N], f: F) -> bool
+    requires { (a : A) → F.pre f a }
+    ensures { (p : A → Bool) → ((a : A) (b : Bool) → F.post f a b → b ≡ p a) → result ≡ list_all p x }
 {
-    if all_regular(x) {
-        return FourFloats {
-            first: ieee::narrow_regular(x.first),
-            second: ieee::narrow_regular(x.second),
-            third: ieee::narrow_regular(x.third),
-            fourth: ieee::narrow_regular(x.fourth),
-        };
+    let mut all = true;
+    for a in &x {
+        all = all & f(*a);
     }
-    FourFloats {
-        first: ieee::narrow(x.first),
-        second: ieee::narrow(x.second),
-        third: ieee::narrow(x.third),
-        fourth: ieee::narrow(x.fourth),
-    }
+    all
 }
 
-pub fn multiply(x: Four, y: Four) -> Four
-    ensures { result ≡ pairwise (mul binary64) x y }
+pub fn widen<const N: usize>(x: [f32; N]) -> [f64; N]
+    ensures { result ≡ map widen_of x.entry }
 {
-    Four {
-        first: x.first * y.first,
-        second: x.second * y.second,
-        third: x.third * y.third,
-        fourth: x.fourth * y.fourth,
-    }
+    each(x, ieee::widen)
 }
 
-pub fn less_one(n: FourFloats) -> FourFloats
-    ensures { result ≡ each_float (λ (x : Float). sub binary32 x one) n }
+// One test tells whether all are regular, the usual case. Then none of them branches, and a processor rounds them at once.
+pub fn narrow<const N: usize>(x: [f64; N]) -> [f32; N]
+    ensures { result ≡ map narrow_of x.entry }
 {
-    FourFloats {
-        first: n.first - 1.0,
-        second: n.second - 1.0,
-        third: n.third - 1.0,
-        fourth: n.fourth - 1.0,
+    if all(x, ieee::is_regular) {
+        return each(x, ieee::narrow_regular);
     }
-}
-
-pub fn reciprocals(n: FourFloats) -> FourFloats
-    ensures { result ≡ each_float (λ (x : Float). div binary32 one x) n }
-{
-    FourFloats {
-        first: 1.0 / n.first,
-        second: 1.0 / n.second,
-        third: 1.0 / n.third,
-        fourth: 1.0 / n.fourth,
-    }
-}
-
-// What each lacks to 1.
-pub fn complements(n: FourFloats) -> FourFloats
-    ensures { result ≡ each_float (λ (x : Float). sub binary32 one x) n }
-{
-    FourFloats {
-        first: 1.0 - n.first,
-        second: 1.0 - n.second,
-        third: 1.0 - n.third,
-        fourth: 1.0 - n.fourth,
-    }
-}
-
-pub fn multiply_floats(x: FourFloats, y: FourFloats) -> FourFloats
-    ensures { result ≡ pairwise_floats (mul binary32) x y }
-{
-    FourFloats {
-        first: x.first * y.first,
-        second: x.second * y.second,
-        third: x.third * y.third,
-        fourth: x.fourth * y.fourth,
-    }
-}
-
-pub fn divide_floats(x: FourFloats, y: FourFloats) -> FourFloats
-    ensures { result ≡ pairwise_floats (div binary32) x y }
-{
-    FourFloats {
-        first: x.first / y.first,
-        second: x.second / y.second,
-        third: x.third / y.third,
-        fourth: x.fourth / y.fourth,
-    }
-}
-
-// One number four times.
-fn alike(c: f64) -> Four
-    ensures { result ≡ alike_of c }
-{
-    Four {
-        first: c,
-        second: c,
-        third: c,
-        fourth: c,
-    }
-}
-
-// One step of Horner's scheme: multiply by z, add c.
-fn step(h: Four, z: Four, c: f64) -> Four
-    ensures { result ≡ pairwise (step_of c) h z }
-{
-    Four {
-        first: h.first * z.first + c,
-        second: h.second * z.second + c,
-        third: h.third * z.third + c,
-        fourth: h.fourth * z.fourth + c,
-    }
-}
-
-// The values at two times four places of the polynomial with the coefficients cs, from the constant term up.
-pub fn horner(cs: &[f64], y: Four, z: Four) -> Eight
-    ensures { (result.low ≡ each (horner_of binary64 cs.now) y) × (result.high ≡ each (horner_of binary64 cs.now) z) }
-{
-    let n = cs.len();
-    if n == 0 {
-        return Eight {
-            low: alike(0.0),
-            high: alike(0.0),
-        };
-    }
-    let mut k = n - 1;
-    let last = cs[k];
-    let mut g = alike(last);
-    let mut h = alike(last);
-    while k > 0 {
-        k -= 1;
-        let c = cs[k];
-        g = step(g, y, c);
-        h = step(h, z, c);
-    }
-    Eight { low: g, high: h }
-}
-
-// The same at four times four places.
-pub fn horner_two(cs: &[f64], y: Four, z: Four, v: Four, w: Four) -> Sixteen
-    ensures { (result.first.low ≡ each (horner_of binary64 cs.now) y) × (result.first.high ≡ each (horner_of binary64 cs.now) z) × (result.second.low ≡ each (horner_of binary64 cs.now) v) × (result.second.high ≡ each (horner_of binary64 cs.now) w) }
-{
-    let n = cs.len();
-    if n == 0 {
-        let zeros = alike(0.0);
-        let eight = Eight {
-            low: zeros,
-            high: zeros,
-        };
-        return Sixteen {
-            first: eight,
-            second: eight,
-        };
-    }
-    let mut k = n - 1;
-    let last = cs[k];
-    let top = alike(last);
-    let mut g = top;
-    let mut h = top;
-    let mut i = top;
-    let mut j = top;
-    while k > 0 {
-        k -= 1;
-        let c = cs[k];
-        g = step(g, y, c);
-        h = step(h, z, c);
-        i = step(i, v, c);
-        j = step(j, w, c);
-    }
-    Sixteen {
-        first: Eight { low: g, high: h },
-        second: Eight { low: i, high: j },
-    }
+    each(x, ieee::narrow)
 }

@@ -9,6 +9,8 @@ use Rattle.octant.specs.Degree.{n_and_xj_of}
 use Rattle.octant.specs.Octant.{point, gap_factor, sqrt2, circle_center_through_of, angle_between_of}
 use Rattle.octant.specs.declared.Fitted.{Fitted}
 use Rattle.octant.specs.declared.Octant.{Octant}
+use Rattle.octant.specs.declared.Solve.{Solve}
+use Rattle.octant.specs.declared.Unsolved.{Unsolved}
 
 -- before the first power
 unfoldable pub fitted_of : Float → Float → Fitted
@@ -41,3 +43,14 @@ finished_of center a s yj tan_phij =
     let circle_center = circle_center_through_of point_j point_m r in
     let circle_max_angle = angle_between_of (sub_of point_m circle_center) (sub_of point_j circle_center) in
     record { offset = center; se_a = a; se_n = s.n; circle_start = point_j; circle_center = circle_center; circle_max_angle = circle_max_angle }
+
+-- the solve of an octant, as far as its last power
+abbrev pub solve_of : Unsolved → Solve
+solve_of u =
+    let s = fitted_of u.a u.radius in
+    let y = height_of s (first_power_of s) u.a in
+    record { fit = s; at = record { y = y; slope = slope_of s y } }
+
+-- the octant, where it is round
+unfoldable pub round_of : Unsolved → Octant
+round_of u = let s = solve_of u in finished_of u.center u.a s.fit s.at.y s.at.slope

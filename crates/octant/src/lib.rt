@@ -3,10 +3,11 @@
 
 #![tactic(auto)]
 
-ghost use Rattle.std.specs.Prelude.{◌≡◌, ◌+◌, ◌<◌};
+ghost use Rattle.std.specs.Prelude.{◌≡◌, ◌+◌, ◌<◌, ◌^◌, map};
 ghost use Rattle.octant.specs.Degree.{corner_at, left_row_of, table_steps_of, n_and_xj_of};
 ghost use Rattle.octant.specs.Octant.{circle_center_through_of, angle_between_of, compute_octant_of, moved_of};
-ghost use Rattle.octant.specs.Stages.{fitted_of, first_power_of, height_of, slope_of, finished_of};
+ghost use Rattle.octant.specs.Stages.{fitted_of, solve_of, round_of, finished_of};
+ghost use Rattle.octant.specs.declared.Unsolved.{Unsolved};
 
 use geometry::Point;
 
@@ -197,26 +198,6 @@ pub fn fit(a: f32, radius: f32) -> Fitted
     }
 }
 
-fn first_power(s: Fitted) -> f32
-    ensures { result ≡ first_power_of s }
-{
-    exponential::pow(s.xj_over_a, s.n)
-}
-
-// The y where the arcs meet.
-fn height(s: Fitted, power: f32, a: f32) -> f32
-    ensures { result ≡ height_of s power a }
-{
-    exponential::pow(1.0 - power, 1.0 / s.n) * a
-}
-
-// The slope of the tangent there.
-fn slope(s: Fitted, yj: f32) -> f32
-    ensures { result ≡ slope_of s yj }
-{
-    exponential::pow(s.xj / yj, s.n - 1.0)
-}
-
 pub fn finished(center: Point, a: f32, s: Fitted, yj: f32, tan_phij: f32) -> Octant
     ensures { result ≡ finished_of center a s yj tan_phij }
 {
@@ -239,6 +220,56 @@ pub fn finished(center: Point, a: f32, s: Fitted, yj: f32, tan_phij: f32) -> Oct
     }
 }
 
+// An octant before it is solved.
+#[derive(Clone, Copy)]
+pub struct Unsolved {
+    pub center: Point,
+    pub a: f32,
+    pub radius: f32,
+}
+
+// The y where the arcs meet, and the slope of the tangent there.
+#[derive(Clone, Copy)]
+struct Meeting {
+    y: f32,
+    slope: f32,
+}
+
+// An octant but for what follows its last power.
+#[derive(Clone, Copy)]
+struct Solve {
+    fit: Fitted,
+    at: Meeting,
+}
+
+// N solves in step. Within a solve each power waits for the one before; a power of another solve need not, so that all are
+// worked out at once.
+fn solves<const N: usize>(u: [Unsolved; N]) -> [Solve; N]
+    requires { N < 2 ^ 32 }
+    ensures { result ≡ map solve_of u.entry }
+{
+    let s = lanes::each(u, |u| fit(u.a, u.radius));
+    let n = lanes::each(s, |s| s.n);
+    let first = exponential::powers(lanes::each(s, |s| s.xj_over_a), n);
+    let rests = lanes::each(first, |p| 1.0 - p);
+    let roots = exponential::powers(rests, lanes::each(n, |n| 1.0 / n));
+    let y = lanes::pairwise(roots, u, |r, u| r * u.a);
+    let bases = lanes::pairwise(s, y, |s, y| s.xj / y);
+    let slopes = exponential::powers(bases, lanes::each(n, |n| n - 1.0));
+    let at = lanes::pairwise(y, slopes, |y, slope| Meeting { y, slope });
+    lanes::pairwise(s, at, |fit, at| Solve { fit, at })
+}
+
+// N octants that are round: none has a radius up to CLOSE_ENOUGH.
+pub fn round_octants<const N: usize>(u: [Unsolved; N]) -> [Octant; N]
+    requires { N < 2 ^ 32 }
+    ensures { result ≡ map round_of u.entry }
+{
+    lanes::pairwise(u, solves(u), |u, s| {
+        finished(u.center, u.a, s.fit, s.at.y, s.at.slope)
+    })
+}
+
 pub fn compute_octant(center: Point, a: f32, radius: f32) -> Octant
     ensures { result ≡ compute_octant_of center a radius }
 {
@@ -252,40 +283,19 @@ pub fn compute_octant(center: Point, a: f32, radius: f32) -> Octant
             circle_max_angle: 0.0,
         };
     }
-    let s = fit(a, radius);
-    let yj = height(s, first_power(s), a);
-    finished(center, a, s, yj, slope(s, yj))
+    let [o] = round_octants([Unsolved { center, a, radius }]);
+    o
 }
 
-// Two octants of one radius.
-#[derive(Drop)]
-pub struct Octants {
-    pub first: Octant,
-    pub second: Octant,
-}
-
-// Two solves in step. Within a solve each power waits for the one before; a power of the other solve
-// need not, so that both are worked out at once.
-pub fn compute_octants(c1: Point, a1: f32, c2: Point, a2: f32, radius: f32) -> Octants
-    ensures { (result.first ≡ compute_octant_of c1 a1 radius) × (result.second ≡ compute_octant_of c2 a2 radius) }
+// N octants, in step where all are round.
+pub fn compute_octants<const N: usize>(u: [Unsolved; N]) -> [Octant; N]
+    requires { N < 2 ^ 32 }
+    ensures { result ≡ map (λ (o : Unsolved). compute_octant_of o.center o.a o.radius) u.entry }
 {
-    if CLOSE_ENOUGH >= radius {
-        return Octants {
-            first: compute_octant(c1, a1, radius),
-            second: compute_octant(c2, a2, radius),
-        };
+    if lanes::all(u, |u| !(u.radius <= CLOSE_ENOUGH)) {
+        return round_octants(u);
     }
-    let s1 = fit(a1, radius);
-    let s2 = fit(a2, radius);
-    let p = exponential::pow_pair(s1.xj_over_a, s1.n, s2.xj_over_a, s2.n);
-    let h = exponential::pow_pair(1.0 - p.first, 1.0 / s1.n, 1.0 - p.second, 1.0 / s2.n);
-    let y1 = h.first * a1;
-    let y2 = h.second * a2;
-    let t = exponential::pow_pair(s1.xj / y1, s1.n - 1.0, s2.xj / y2, s2.n - 1.0);
-    Octants {
-        first: finished(c1, a1, s1, y1, t.first),
-        second: finished(c2, a2, s2, y2, t.second),
-    }
+    lanes::each(u, |u| compute_octant(u.center, u.a, u.radius))
 }
 
 // The same octant elsewhere: nothing but the offset tells where an octant is.

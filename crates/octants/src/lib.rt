@@ -1,272 +1,113 @@
-// What is drawn of eight octants, all in step: each power and each turn of the one is worked out beside the same of the
+// What is drawn of several octants, all in step: each power and each turn of the one is worked out beside the same of the
 // others.
 
 #![tactic(auto)]
 
-ghost use Rattle.std.specs.Prelude.{◌≡◌, Float};
-ghost use Rattle.std.specs.Float.Ieee.{neg};
-ghost use Rattle.geometry.specs.Point.{one};
-ghost use Rattle.octant.specs.Binary32.{◌⊖◌, ◌⊘◌};
-ghost use Rattle.octant.specs.declared.Octant.{Octant};
-ghost use Rattle.lanes.specs.Lanes.{each_float};
-ghost use Rattle.arcs.specs.Circle.{four};
-ghost use Rattle.octants.specs.Octants.{factors_of, height_of, floats_each, factors_each, heights_each, starts_each, met_of, met_each, ratios_each, joined_each, points_each, conics_each, arcs_each};
+ghost use Rattle.std.specs.Prelude.{◌≡◌, ◌<◌, ◌^◌, map};
+ghost use Rattle.arcs.specs.Circle.{arc_points_of, circular_arc_points_of};
+ghost use Rattle.octants.specs.Octants.{start_of, ratio_of, met_of, conics_of};
 
 use arcs::{ConicFactors, SuperellipseConics};
 use geometry::Point;
-use lanes::FourFloats;
 use octant::Octant;
 
+// An octant, its conics' factors, and the height where the conics meet as a part of its half-extent.
 #[derive(Clone, Copy)]
-pub struct FourOctants {
-    pub first: Octant,
-    pub second: Octant,
-    pub third: Octant,
-    pub fourth: Octant,
+struct Start {
+    octant: Octant,
+    factors: ConicFactors,
+    y: f32,
 }
 
-#[derive(Drop)]
-pub struct FourConics {
-    pub first: SuperellipseConics,
-    pub second: SuperellipseConics,
-    pub third: SuperellipseConics,
-    pub fourth: SuperellipseConics,
-}
-
-#[derive(Drop)]
-pub struct EightConics {
-    pub low: FourConics,
-    pub high: FourConics,
-}
-
-// Each a cubic: start, two controls, end.
-#[derive(Drop)]
-pub struct FourArcs {
-    pub first: [Point; 4],
-    pub second: [Point; 4],
-    pub third: [Point; 4],
-    pub fourth: [Point; 4],
-}
-
-#[derive(Drop)]
-pub struct EightArcs {
-    pub low: FourArcs,
-    pub high: FourArcs,
-}
-
+// The slopes of the tangents where the conics meet and where the circle starts, but for the sign.
 #[derive(Clone, Copy)]
-struct FourFactors {
-    first: ConicFactors,
-    second: ConicFactors,
-    third: ConicFactors,
-    fourth: ConicFactors,
+struct Slopes {
+    at_h: f32,
+    at_j: f32,
 }
 
+// Where the conics meet, and the slopes.
 #[derive(Clone, Copy)]
-struct FourPoints {
-    first: Point,
-    second: Point,
-    third: Point,
-    fourth: Point,
+struct End {
+    h: Point,
+    slopes: Slopes,
 }
 
-fn degrees(o: FourOctants) -> FourFloats
-    ensures { result ≡ floats_each (λ (p : Octant). p.se_n) o }
+fn started(octant: Octant) -> Start
+    ensures { result ≡ start_of octant }
 {
-    FourFloats {
-        first: o.first.se_n,
-        second: o.second.se_n,
-        third: o.third.se_n,
-        fourth: o.fourth.se_n,
+    let factors = arcs::superellipse_conic_factors(octant.se_n, octant.circle_start.x / octant.se_a);
+    let y = arcs::meeting(factors, octant.circle_start.y / octant.se_a);
+    Start {
+        octant,
+        factors,
+        y,
     }
 }
 
-// The slope of the radius to each, which a power makes the slope of the tangent, but for the sign.
-fn ratios(p: FourPoints) -> FourFloats
-    ensures { result ≡ ratios_each p }
+// The slope of the radius to a point, which a power makes the slope of the tangent, but for the sign.
+fn ratio(p: Point) -> f32
+    ensures { result ≡ ratio_of p }
 {
-    FourFloats {
-        first: p.first.x / p.first.y,
-        second: p.second.x / p.second.y,
-        third: p.third.x / p.third.y,
-        fourth: p.fourth.x / p.fourth.y,
-    }
-}
-
-fn factors(o: Octant) -> ConicFactors
-    ensures { result ≡ factors_of o }
-{
-    arcs::superellipse_conic_factors(o.se_n, o.circle_start.x / o.se_a)
-}
-
-fn four_factors(o: FourOctants) -> FourFactors
-    ensures { result ≡ factors_each o }
-{
-    FourFactors {
-        first: factors(o.first),
-        second: factors(o.second),
-        third: factors(o.third),
-        fourth: factors(o.fourth),
-    }
-}
-
-// The height at which the conics of an octant meet, as a part of its half-extent.
-fn height(f: ConicFactors, o: Octant) -> f32
-    ensures { result ≡ height_of f o }
-{
-    arcs::meeting(f, o.circle_start.y / o.se_a)
-}
-
-fn four_heights(f: FourFactors, o: FourOctants) -> FourFloats
-    ensures { result ≡ heights_each f o }
-{
-    FourFloats {
-        first: height(f.first, o.first),
-        second: height(f.second, o.second),
-        third: height(f.third, o.third),
-        fourth: height(f.fourth, o.fourth),
-    }
-}
-
-fn starts(o: FourOctants) -> FourPoints
-    ensures { result ≡ starts_each o }
-{
-    let first = o.first.circle_start;
-    let second = o.second.circle_start;
-    let third = o.third.circle_start;
-    let fourth = o.fourth.circle_start;
-    FourPoints {
-        first,
-        second,
-        third,
-        fourth,
-    }
+    p.x / p.y
 }
 
 // Where the conics of an octant meet.
-fn met(o: Octant, x: f32, y: f32) -> Point
-    ensures { result ≡ met_of o x y }
+fn met(s: Start, x: f32) -> Point
+    ensures { result ≡ met_of s x }
 {
     Point {
-        x: x * o.se_a,
-        y: y * o.se_a,
+        x: x * s.octant.se_a,
+        y: s.y * s.octant.se_a,
     }
 }
 
-fn four_met(o: FourOctants, x: FourFloats, y: FourFloats) -> FourPoints
-    ensures { result ≡ met_each o x y }
+// The superellipse arcs of N octants. The tangents fall, by as much as the slopes.
+pub fn conics<const N: usize>(o: [Octant; N]) -> [SuperellipseConics; N]
+    requires { N < 2 ^ 32 }
+    ensures { result ≡ map conics_of o.entry }
 {
-    FourPoints {
-        first: met(o.first, x.first, y.first),
-        second: met(o.second, x.second, y.second),
-        third: met(o.third, x.third, y.third),
-        fourth: met(o.fourth, x.fourth, y.fourth),
-    }
+    let s = lanes::each(o, started);
+    let n = lanes::each(o, |o| o.se_n);
+    let powers = exponential::powers(lanes::each(s, |s| s.y), n);
+    let rests = lanes::each(powers, |p| 1.0 - p);
+    let roots = exponential::powers(rests, lanes::each(n, |n| 1.0 / n));
+    let h = lanes::pairwise(s, roots, met);
+    let less = lanes::each(n, |n| n - 1.0);
+    let at_h = exponential::powers(lanes::each(h, ratio), less);
+    let at_j = exponential::powers(lanes::each(o, |o| ratio(o.circle_start)), less);
+    let slopes = lanes::pairwise(at_h, at_j, |at_h, at_j| Slopes { at_h, at_j });
+    let ends = lanes::pairwise(h, slopes, |h, slopes| End { h, slopes });
+    lanes::pairwise(s, ends, |s, e| {
+        arcs::joined(s.octant, s.factors, e.h, -e.slopes.at_h, -e.slopes.at_j)
+    })
 }
 
-// The tangents fall, by as much as k_h at h and k_j where the circle starts.
-fn four_joined(
-    o: FourOctants,
-    f: FourFactors,
-    h: FourPoints,
-    k_h: FourFloats,
-    k_j: FourFloats,
-) -> FourConics
-    ensures { result ≡ joined_each o f h k_h k_j }
-{
-    FourConics {
-        first: arcs::joined(o.first, f.first, h.first, -k_h.first, -k_j.first),
-        second: arcs::joined(o.second, f.second, h.second, -k_h.second, -k_j.second),
-        third: arcs::joined(o.third, f.third, h.third, -k_h.third, -k_j.third),
-        fourth: arcs::joined(o.fourth, f.fourth, h.fourth, -k_h.fourth, -k_j.fourth),
-    }
+// The sine and cosine of minus an arc's angle, and the tangent of a quarter of it.
+#[derive(Clone, Copy)]
+struct Turn {
+    sin: f32,
+    cos: f32,
+    tan: f32,
 }
 
-// The superellipse arcs of the octants p and q.
-pub fn conics(p: FourOctants, q: FourOctants) -> EightConics
-    ensures { (result.low ≡ conics_each p) × (result.high ≡ conics_each q) }
+fn arc(o: Octant, t: Turn) -> [Point; 4]
+    ensures { result ≡ arc_points_of o t.sin t.cos t.tan }
 {
-    let odd = series::odd_reciprocals();
-    let inverse = series::factorial_reciprocals();
-    let n = degrees(p);
-    let m = degrees(q);
-    let f = four_factors(p);
-    let g = four_factors(q);
-    let y = four_heights(f, p);
-    let z = four_heights(g, q);
-    let n_less = lanes::less_one(n);
-    let m_less = lanes::less_one(m);
-    let s = ratios(starts(p));
-    let t = ratios(starts(q));
-    // Neither eight waits for the other, so they go together.
-    let both = powers::pow_two(y, n, z, m, s, n_less, t, m_less);
-    let powers = both.first;
-    let at_j = both.second;
-    let roots = powers::pow(
-        &odd[..12],
-        &inverse[..14],
-        lanes::complements(powers.low),
-        lanes::reciprocals(n),
-        lanes::complements(powers.high),
-        lanes::reciprocals(m),
-    );
-    let h = four_met(p, roots.low, y);
-    let i = four_met(q, roots.high, z);
-    let at_h = powers::pow(
-        &odd[..12],
-        &inverse[..14],
-        ratios(h),
-        n_less,
-        ratios(i),
-        m_less,
-    );
-    EightConics {
-        low: four_joined(p, f, h, at_h.low, at_j.low),
-        high: four_joined(q, g, i, at_h.high, at_j.high),
-    }
+    arcs::arc_points(o, t.sin, t.cos, t.tan)
 }
 
-fn negated_angles(o: FourOctants) -> FourFloats
-    ensures { result ≡ floats_each (λ (p : Octant). neg p.circle_max_angle) o }
+// The circular arcs of N octants, each as a cubic: start, two controls, end.
+pub fn arcs<const N: usize>(o: [Octant; N]) -> [[Point; 4]; N]
+    requires { N < 2 ^ 32 }
+    ensures { result ≡ map circular_arc_points_of o.entry }
 {
-    FourFloats {
-        first: -o.first.circle_max_angle,
-        second: -o.second.circle_max_angle,
-        third: -o.third.circle_max_angle,
-        fourth: -o.fourth.circle_max_angle,
-    }
-}
-
-fn quarter_angles(o: FourOctants) -> FourFloats
-    ensures { result ≡ floats_each (λ (p : Octant). p.circle_max_angle ⊘ four) o }
-{
-    FourFloats {
-        first: o.first.circle_max_angle / 4.0,
-        second: o.second.circle_max_angle / 4.0,
-        third: o.third.circle_max_angle / 4.0,
-        fourth: o.fourth.circle_max_angle / 4.0,
-    }
-}
-
-fn four_arcs(o: FourOctants, sin: FourFloats, cos: FourFloats, tan: FourFloats) -> FourArcs
-    ensures { result ≡ points_each o sin cos tan }
-{
-    FourArcs {
-        first: arcs::arc_points(o.first, sin.first, cos.first, tan.first),
-        second: arcs::arc_points(o.second, sin.second, cos.second, tan.second),
-        third: arcs::arc_points(o.third, sin.third, cos.third, tan.third),
-        fourth: arcs::arc_points(o.fourth, sin.fourth, cos.fourth, tan.fourth),
-    }
-}
-
-// The circular arcs of the octants p and q.
-pub fn arcs(p: FourOctants, q: FourOctants) -> EightArcs
-    ensures { (result.low ≡ arcs_each p) × (result.high ≡ arcs_each q) }
-{
-    let turn = turns::sin_cos(negated_angles(p), negated_angles(q));
-    let tan = turns::tan(quarter_angles(p), quarter_angles(q));
-    EightArcs {
-        low: four_arcs(p, turn.low.sin, turn.low.cos, tan.low),
-        high: four_arcs(q, turn.high.sin, turn.high.cos, tan.high),
-    }
+    let turns = turns::sin_cos(lanes::each(o, |o| -o.circle_max_angle));
+    let tans = turns::tan(lanes::each(o, |o| o.circle_max_angle / 4.0));
+    let t = lanes::pairwise(turns, tans, |t, tan| Turn {
+        sin: t.sin,
+        cos: t.cos,
+        tan,
+    });
+    lanes::pairwise(o, t, arc)
 }

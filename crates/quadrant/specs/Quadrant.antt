@@ -6,6 +6,8 @@ use Rattle.geometry.specs.declared.Point.{Point}
 use Rattle.geometry.specs.Point.{one, sub_of, div_of, shrink_of, abs_point}
 use Rattle.octant.specs.Binary32.{◌⊕◌, ◌⊖◌, ◌⊗◌, ◌⊘◌, zero, two}
 use Rattle.octant.specs.Octant.{point, compute_octant_of}
+use Rattle.octant.specs.declared.Octant.{Octant}
+use Rattle.octant.specs.declared.Unsolved.{Unsolved}
 use Rattle.quadrant.specs.declared.Frame.{Frame}
 use Rattle.quadrant.specs.declared.Quadrant.{Quadrant}
 
@@ -59,6 +61,17 @@ top_offset_of f = point zero (neg (f.half_size.x ⊖ f.half_size.y))
 
 unfoldable pub right_offset_of : Frame → Point
 right_offset_of f = point (f.half_size.x ⊖ f.half_size.y) zero
+
+-- the octants, unsolved
+abbrev pub top_octant_of : Frame → Unsolved
+top_octant_of f = record { center = top_offset_of f; a = f.half_size.x; radius = f.radius }
+
+abbrev pub right_octant_of : Frame → Unsolved
+right_octant_of f = record { center = right_offset_of f; a = f.half_size.y; radius = f.radius }
+
+-- the quadrant with given octants
+abbrev pub joined_of : Frame → Octant → Octant → Quadrant
+joined_of f top right = record { offset = f.offset; signed_scale = f.signed_scale; top = top; right = right }
 
 -- the quadrant
 unfoldable pub solved_of : Frame → Quadrant

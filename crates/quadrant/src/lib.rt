@@ -4,11 +4,10 @@
 #![tactic(auto)]
 
 ghost use Rattle.std.specs.Prelude.{◌≡◌, true};
-ghost use Rattle.octant.specs.Octant.{compute_octant_of};
-ghost use Rattle.quadrant.specs.Quadrant.{forward_scale_of, or_sign_of, frame_of, top_offset_of, right_offset_of, solved_of, compute_quadrant_of, both_zero, split_of, square_corner};
+ghost use Rattle.quadrant.specs.Quadrant.{forward_scale_of, or_sign_of, frame_of, top_offset_of, right_offset_of, top_octant_of, right_octant_of, joined_of, solved_of, compute_quadrant_of, both_zero, split_of, square_corner};
 
 use geometry::Point;
-use octant::{Octant, Octants};
+use octant::{Octant, Unsolved};
 
 // Two octants that meet on the diagonal.
 #[derive(Clone, Copy)]
@@ -64,20 +63,6 @@ fn is_one_float(x: f32, y: f32) -> bool
     f32::to_bits(x) == f32::to_bits(y)
 }
 
-// Octants of the same half-extent differ in their offset alone, so one solve serves both.
-fn two_octants(from: Point, to: Point, half_size: Point, radius: f32) -> Octants
-    ensures { (result.first ≡ compute_octant_of from half_size.x radius) × (result.second ≡ compute_octant_of to half_size.y radius) }
-{
-    if is_one_float(half_size.x, half_size.y) {
-        let top = octant::compute_octant(from, half_size.x, radius);
-        return Octants {
-            first: top,
-            second: octant::moved(top, to),
-        };
-    }
-    octant::compute_octants(from, half_size.x, to, half_size.y, radius)
-}
-
 // A corner before its octants are solved: each half-extent as if the corner were round, and its radius.
 #[derive(Clone, Copy)]
 pub struct Frame {
@@ -129,22 +114,53 @@ pub fn right_offset(f: Frame) -> Point
     Point { x: c, y: 0.0 }
 }
 
-// The quadrant of a corner, solved.
-#[tactic(auto, unfolding(crate::specs::Quadrant::solved_of))]
-pub fn solved(f: Frame) -> Quadrant
-    ensures { result ≡ solved_of f }
+// The two octants of a corner, unsolved.
+pub fn top_octant(f: Frame) -> Unsolved
+    ensures { result ≡ top_octant_of f }
+{
+    let center = top_offset(f);
+    Unsolved {
+        center,
+        a: f.half_size.x,
+        radius: f.radius,
+    }
+}
+
+pub fn right_octant(f: Frame) -> Unsolved
+    ensures { result ≡ right_octant_of f }
+{
+    let center = right_offset(f);
+    Unsolved {
+        center,
+        a: f.half_size.y,
+        radius: f.radius,
+    }
+}
+
+// The quadrant of a corner with these octants.
+pub fn joined(f: Frame, top: Octant, right: Octant) -> Quadrant
+    ensures { result ≡ joined_of f top right }
 {
     let offset = f.offset;
     let signed_scale = f.signed_scale;
-    let octants = two_octants(top_offset(f), right_offset(f), f.half_size, f.radius);
-    let top = octants.first;
-    let right = octants.second;
     Quadrant {
         offset,
         signed_scale,
         top,
         right,
     }
+}
+
+// The quadrant of a corner, solved. Octants of the same half-extent differ in their offset alone, so one solve serves both.
+pub fn solved(f: Frame) -> Quadrant
+    ensures { result ≡ solved_of f }
+{
+    if is_one_float(f.half_size.x, f.half_size.y) {
+        let top = octant::compute_octant(top_offset(f), f.half_size.x, f.radius);
+        return joined(f, top, octant::moved(top, right_offset(f)));
+    }
+    let [top, right] = octant::compute_octants([top_octant(f), right_octant(f)]);
+    joined(f, top, right)
 }
 
 pub fn compute_quadrant(center: Point, corner: Point, in_radii: Point, sign: Point) -> Quadrant

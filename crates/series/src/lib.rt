@@ -3,59 +3,25 @@
 
 #![tactic(auto)]
 
-ghost use Rattle.std.specs.Prelude.{◌≡◌};
+ghost use Rattle.std.specs.Prelude.{◌≡◌, map};
 ghost use Rattle.std.specs.Float.{binary64};
 ghost use Rattle.series.specs.Horner.{horner_of};
 ghost use Rattle.series.specs.Coefficients.{terms, odd_reciprocal, factorial_reciprocal};
 
-// The value at z of the polynomial with the coefficients cs, from the constant term up.
-pub fn horner(cs: &[f64], z: f64) -> f64
-    ensures { result ≡ horner_of binary64 cs.now z }
+// The values at N places of the polynomial with the coefficients cs, from the constant term up. They go in step: none waits for another.
+pub fn horner<const N: usize>(cs: &[f64], z: [f64; N]) -> [f64; N]
+    ensures { result ≡ map (horner_of binary64 cs.now) z.entry }
 {
     let n = cs.len();
     if n == 0 {
-        return 0.0;
+        return [0.0; N];
     }
-    let mut k = n - 1;
-    let mut h = cs[k];
-    while k > 0 {
-        k -= 1;
-        h = h * z + cs[k];
+    let mut h = [cs[n - 1]; N];
+    for k in (0..n - 1).rev() {
+        let c = cs[k];
+        h = lanes::pairwise(h, z, |h, z| h * z + c);
     }
     h
-}
-
-#[derive(Drop)]
-pub struct Pair {
-    pub first: f64,
-    pub second: f64,
-}
-
-// The value at two places, in step: neither waits for the other.
-pub fn horner_pair(cs: &[f64], y: f64, z: f64) -> Pair
-    ensures { (result.first ≡ horner_of binary64 cs.now y) × (result.second ≡ horner_of binary64 cs.now z) }
-{
-    let n = cs.len();
-    if n == 0 {
-        return Pair {
-            first: 0.0,
-            second: 0.0,
-        };
-    }
-    let mut k = n - 1;
-    let last = cs[k];
-    let mut g = last;
-    let mut h = last;
-    while k > 0 {
-        k -= 1;
-        let c = cs[k];
-        g = g * y + c;
-        h = h * z + c;
-    }
-    Pair {
-        first: g,
-        second: h,
-    }
 }
 
 // 1 / (2k + 1) for k from 0 to 25.

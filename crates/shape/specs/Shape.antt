@@ -1,11 +1,12 @@
 -- The shape that the Rust's `RoundSuperellipse::new` makes of any bounds and radii. Definitions only.
-use Rattle.std.specs.Prelude.{Bool, true, false, cond, ◌&&◌, Float}
+use Rattle.std.specs.Prelude.{Bool, true, false, cond, ◌&&◌, List, [], ◌∷◌, Float}
 use Rattle.std.specs.Float.Ieee.{neg, eq, ne}
 use Rattle.geometry.specs.declared.Point.{Point}
 use Rattle.geometry.specs.Point.{one, add_of, shrink_of}
 use Rattle.octant.specs.Binary32.{zero, two}
 use Rattle.octant.specs.Octant.{point}
 use Rattle.quadrant.specs.Quadrant.{compute_quadrant_of, split_of}
+use Rattle.quadrant.specs.declared.Quadrant.{Quadrant}
 use Rattle.shape.specs.declared.Bounds.{Bounds}
 use Rattle.shape.specs.declared.CornerRadii.{CornerRadii}
 use Rattle.shape.specs.declared.RoundSuperellipse.{RoundSuperellipse}
@@ -54,6 +55,10 @@ unequal_shape bounds radii =
       top_left = compute_quadrant_of (point top_split left_split) min radii.top_left (point minus_one minus_one);
       all_corners_same = false;
     }
+
+-- the quadrants as the unequal path makes them
+abbrev pub corners_in_order : RoundSuperellipse → List Quadrant
+corners_in_order s = s.top_right ∷ s.bottom_right ∷ s.bottom_left ∷ s.top_left ∷ []
 
 -- RoundSuperellipse::new, refusals apart
 unfoldable pub shape_of : Bounds → CornerRadii → RoundSuperellipse

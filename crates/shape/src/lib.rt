@@ -3,16 +3,15 @@
 
 #![tactic(auto)]
 
-ghost use Rattle.std.specs.Prelude.{◌≡◌, Bool};
+ghost use Rattle.std.specs.Prelude.{◌≡◌, Bool, map};
 ghost use Rattle.geometry.specs.declared.Point.{Point};
 ghost use Rattle.octant.specs.Octant.{point};
 ghost use Rattle.quadrant.specs.Quadrant.{frame_of, solved_of};
-ghost use Rattle.shape.specs.Shape.{all_same, one_quadrant, equal_shape, unequal_shape, shape_of};
+ghost use Rattle.shape.specs.Shape.{corners_in_order, all_same, one_quadrant, equal_shape, unequal_shape, shape_of};
 ghost use Rattle.shape.specs.Refusal.{any_corner, beyond_limit, point_beyond, radii_beyond, bounds_beyond, point_below, radii_below, inverted, number_of, outcome_of, new_of};
 
 use geometry::Point;
 use quadrant::{Frame, Quadrant};
-use quadrants::FourFrames;
 use std::error::Error;
 use std::fmt;
 
@@ -123,8 +122,8 @@ fn frame_at(x: f32, y: f32, corner: Point, radii: Point, u: f32, v: f32) -> Fram
 }
 
 // The four corners before their octants are solved, about the points where they divide their sides.
-fn frames(bounds: Bounds, radii: CornerRadii) -> FourFrames
-    ensures { (solved_of result.first ≡ (unequal_shape bounds radii).top_right) × (solved_of result.second ≡ (unequal_shape bounds radii).bottom_right) × (solved_of result.third ≡ (unequal_shape bounds radii).bottom_left) × (solved_of result.fourth ≡ (unequal_shape bounds radii).top_left) }
+fn frames(bounds: Bounds, radii: CornerRadii) -> [Frame; 4]
+    ensures { map solved_of result ≡ corners_in_order (unequal_shape bounds radii) }
 {
     let min = bounds.min;
     let max = bounds.max;
@@ -134,23 +133,19 @@ fn frames(bounds: Bounds, radii: CornerRadii) -> FourFrames
     let right = quadrant::split(min.y, max.y, radii.top_right.y, radii.bottom_right.y);
     let bottom = quadrant::split(min.x, max.x, radii.bottom_left.x, radii.bottom_right.x);
     let left = quadrant::split(min.y, max.y, radii.top_left.y, radii.bottom_left.y);
-    FourFrames {
-        first: frame_at(top, right, tr, radii.top_right, 1.0, -1.0),
-        second: frame_at(bottom, right, max, radii.bottom_right, 1.0, 1.0),
-        third: frame_at(bottom, left, bl, radii.bottom_left, -1.0, 1.0),
-        fourth: frame_at(top, left, min, radii.top_left, -1.0, -1.0),
-    }
+    [
+        frame_at(top, right, tr, radii.top_right, 1.0, -1.0),
+        frame_at(bottom, right, max, radii.bottom_right, 1.0, 1.0),
+        frame_at(bottom, left, bl, radii.bottom_left, -1.0, 1.0),
+        frame_at(top, left, min, radii.top_left, -1.0, -1.0),
+    ]
 }
 
 #[tactic(auto, unfolding(crate::specs::Shape::unequal_shape))]
 fn unequal_shape(bounds: Bounds, radii: CornerRadii) -> RoundSuperellipse
     ensures { result ≡ unequal_shape bounds radii }
 {
-    let q = quadrants::solved(frames(bounds, radii));
-    let top_right = q.first;
-    let bottom_right = q.second;
-    let bottom_left = q.third;
-    let top_left = q.fourth;
+    let [top_right, bottom_right, bottom_left, top_left] = quadrants::solved(frames(bounds, radii));
     RoundSuperellipse {
         top_right,
         bottom_right,

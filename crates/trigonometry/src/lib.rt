@@ -3,7 +3,7 @@
 
 #![tactic(auto)]
 
-ghost use Rattle.std.specs.Prelude.{◌≡◌, cond, not, ◌&&◌, ◌||◌};
+ghost use Rattle.std.specs.Prelude.{◌≡◌, ◌<◌, ◌^◌, map, cond, not, ◌&&◌, ◌||◌};
 ghost use Rattle.std.specs.Float.Ieee.Scale.{finite};
 ghost use Rattle.std.specs.Float.{binary64};
 ghost use Rattle.std.specs.Float.Ieee.{ne, eq, lt, le, sub, add, div};
@@ -15,14 +15,14 @@ ghost use Rattle.trigonometry.specs.Arctangent.{arctangent_term, series_of, arct
 
 const PI: f64 = 3.141592653589793;
 
-#[derive(Drop)]
+#[derive(Clone, Copy)]
 pub struct SinCos {
     pub sin: f32,
     pub cos: f32,
 }
 
 // A sine and a cosine, before they are narrowed.
-#[derive(Drop)]
+#[derive(Clone, Copy)]
 pub struct Pair {
     pub s: f64,
     pub c: f64,
@@ -42,18 +42,17 @@ pub fn cosine_coefficients() -> [f64; 8]
     [f[0], -f[2], f[4], -f[6], f[8], -f[10], f[12], -f[14]]
 }
 
-// The sine and cosine of t / 16.
-fn sixteenth(t: f64) -> Pair
-    ensures { result ≡ sixteenth_of t }
+// The sines and cosines of N numbers / 16, in step. A division, and not a product with 1 / 16, as document 01 writes it.
+pub fn sixteenths<const N: usize>(t: [f64; N]) -> [Pair; N]
+    requires { N < 2 ^ 32 }
+    ensures { result ≡ map sixteenth_of t.entry }
 {
-    let q = t / 16.0;
-    let z = q * q;
+    let q = lanes::each(t, |t| t / 16.0);
+    let z = lanes::each(q, |q| q * q);
     let sines = sine_coefficients();
     let cosines = cosine_coefficients();
-    Pair {
-        s: q * series::horner(&sines, z),
-        c: series::horner(&cosines, z),
-    }
+    let s = lanes::pairwise(q, series::horner(&sines, z), |q, g| q * g);
+    lanes::pairwise(s, series::horner(&cosines, z), |s, c| Pair { s, c })
 }
 
 // The pair of twice the angle.
@@ -63,6 +62,13 @@ fn doubled(p: Pair) -> Pair
     let s = (2.0 * p.s) * p.c;
     let c = p.c * p.c - p.s * p.s;
     Pair { s: s, c: c }
+}
+
+// The pair of sixteen times the angle.
+pub fn sixteenfold(p: Pair) -> Pair
+    ensures { result ≡ doubled_of (doubled_of (doubled_of (doubled_of p))) }
+{
+    doubled(doubled(doubled(doubled(p))))
 }
 
 // No NaN, and of magnitude 8 at most. A comparison with a NaN is false.
@@ -76,7 +82,8 @@ pub fn pair_at(t: f32) -> Pair
     ensures { result ≡ pair_of (widen_of t) }
 {
     if in_range(t) {
-        return doubled(doubled(doubled(doubled(sixteenth(ieee::widen(t))))));
+        let [p] = sixteenths([ieee::widen(t)]);
+        return sixteenfold(p);
     }
     Pair {
         s: 0.0 / 0.0,
@@ -117,7 +124,8 @@ fn arctangent_series(r: f64) -> f64
     ensures { result ≡ series_of r }
 {
     let cs = arctangent_coefficients();
-    r * series::horner(&cs, r * r)
+    let [h] = series::horner(&cs, [r * r]);
+    r * h
 }
 
 // The number at which A of document 01 takes the series.

@@ -24,10 +24,3 @@ returns-then-t-2 c = rw (inf64_is, c.if-t-2.true)
 pub returns-then-t-3 : goal.returns-then-t-3
 unfolding exp_of
 returns-then-t-3 c = rw (c.if-t-2.false, c.if-t-3.true)
-
-pub slice_bounds-horner-end : goal.slice_bounds-horner-end
-unfolding terms
-slice_bounds-horner-end c = rw c.factorial_reciprocals-c.ensures
-
-pub returns : goal.returns
-returns c = exp_by _ _ _ _ _ c.factorial_reciprocals-c.ensures c.horner.ensures c.reduce-s.ensures

@@ -3,6 +3,11 @@ use mathlib.Core.Path.{sym, ◌∙◌}
 use Rattle.exponential.specs.Power.{pow_of}
 use Rattle.exponential.proofs.Specials.{nan32_is}
 use Rattle.exponential.proofs.Rules.{above_zero}
+use lib.Dec.{T}
+use lib.Ieee.{Float}
+use lib.Ieee.Positive.{positive}
+use native.Mathlib.Omega.{arith}
+use Rattle.lanes.proofs.Places.{All-one}
 use Rattle.exponential.proofs.pow.Goals as goal
 
 pub returns-then-b : goal.returns-then-b
@@ -49,18 +54,11 @@ returns-then-is_infinite-2 c =
     let t = s.before.before in
     rw (t.before.before.if-b.false, t.before.if-y.false, t.if-b-2.false, s.before.if-b-3.false, s.if-y-2.false, r.if-b-4.false, ← q.before.is_infinite.ensures, q.if-is_infinite.false, ← c.is_infinite-2.ensures, c.if-is_infinite-2.true, ← c.zero_if-then-is_infinite-2.ensures)
 
-pub pow_main-requires : goal.pow_main-requires
-pow_main-requires c =
-    let q = c.before.before in
-    let r = q.before.before in
-    let t = r.before.before.before in
-    above_zero t.before.before.before.args.b t.before.before.if-b.false t.if-b-2.false r.if-b-4.false (sym q.before.is_infinite.ensures ∙ q.if-is_infinite.false)
+pub main_powers-requires : goal.main_powers-requires
+main_powers-requires c =
+    let above = above_zero c.args.b c.if-b.false c.if-b-2.false c.if-b-4.false (sym c.is_infinite.ensures ∙ c.if-is_infinite.false) in
+    (omega arith, (omega arith, All-one (λ (x : Float). T (positive x)) c.args.b above))
 
 pub returns : goal.returns
 unfolding pow_of
-returns c =
-    let q = c.before.before.before in
-    let r = q.before.before in
-    let s = r.before in
-    let t = s.before.before in
-    rw (t.before.before.if-b.false, t.before.if-y.false, t.if-b-2.false, s.before.if-b-3.false, s.if-y-2.false, r.if-b-4.false, ← q.before.is_infinite.ensures, q.if-is_infinite.false, ← c.is_infinite-2.ensures, c.if-is_infinite-2.false, ← c.pow_main.ensures)
+returns c = rw (c.main_powers.ensures, c.if-b.false, c.if-y.false, c.if-b-2.false, c.if-b-3.false, c.if-y-2.false, c.if-b-4.false, ← c.is_infinite.ensures, c.if-is_infinite.false, ← c.is_infinite-2.ensures, c.if-is_infinite-2.false)

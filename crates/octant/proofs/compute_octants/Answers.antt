@@ -1,14 +1,14 @@
-use mathlib.Core.Path.{ap}
-use lib.Ieee.{Float}
-use Rattle.octant.specs.Binary32.{◌⊗◌}
-use Rattle.octant.specs.Stages.{first_power_of, height_of, slope_of}
-use Rattle.octant.proofs.Solving.{solved}
+use Rattle.std.proofs.Common.{rules, not, sym, ◌∙◌}
+use borrow.Author.Tests.{not-true}
+use lib.Ieee.{le}
+use Rattle.lanes.proofs.Places.{map-agree}
+use Rattle.octant.specs.Octant.{close_enough, compute_octant_of}
+use Rattle.octant.specs.Stages.{round_of}
+use Rattle.octant.specs.declared.Unsolved.{Unsolved}
+use Rattle.octant.proofs.Solving.{round-solved}
 use Rattle.octant.proofs.compute_octants.Goals as goal
 
-pub returns : goal.returns
-unfolding first_power_of height_of slope_of
-returns c =
-    let a = c.args in (
-      solved a.c1 a.a1 a.radius _ _ _ _ _ c.if-radius.false c.fit-s1.ensures c.pow_pair-p.ensures.0 (ap (λ (x : Float). x ⊗ a.a1) c.pow_pair-h.ensures.0) c.pow_pair-t.ensures.0 c.finished.ensures,
-      solved a.c2 a.a2 a.radius _ _ _ _ _ c.if-radius.false c.fit-s2.ensures c.pow_pair-p.ensures.1 (ap (λ (x : Float). x ⊗ a.a2) c.pow_pair-h.ensures.1) c.pow_pair-t.ensures.1 c.finished-2.ensures,
-    )
+pub returns-then-all : goal.returns-then-all
+returns-then-all g c =
+    c.round_octants.ensures
+    ∙ map-agree (λ (u : Unsolved). not (le u.radius close_enough)) round_of (λ (u : Unsolved). compute_octant_of u.center u.a u.radius) (λ u e. round-solved u (not-true _ e)) c.args.u (sym (c.all.ensures _ (λ a b e. search rules)) ∙ c.if-all.true)

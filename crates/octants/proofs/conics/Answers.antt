@@ -1,81 +1,49 @@
-use mathlib.Core.Path.{◌≡◌}
-use lib.Dec.{lit≤}
-use lib.Ieee.{Float}
+use Rattle.std.proofs.Common.{◌≡◌, rules, map, refl, ◌∙◌}
+use Rattle.std.proofs.lemmas.Simd.{zip2_of_maps}
+use lib.Ieee.{Float, neg}
 use Rattle.geometry.specs.Point.{one}
-use Rattle.series.specs.Coefficients.{terms}
-use Rattle.series.proofs.Families.{enough}
-use Rattle.powers.proofs.Laws.{first_odd, first_factorial}
-use Rattle.lanes.specs.Lanes.{each_float, pairwise_floats}
-use Rattle.lanes.specs.declared.FourFloats.{FourFloats}
+use Rattle.geometry.specs.declared.Point.{Point}
 use Rattle.exponential.specs.Power.{pow_of}
+use Rattle.lanes.proofs.Places.{map-of_map, zip2-of_map_right}
 use Rattle.octant.specs.Binary32.{◌⊖◌, ◌⊘◌}
 use Rattle.octant.specs.declared.Octant.{Octant}
-use Rattle.arcs.specs.Conics.{superellipse_conics_of}
-use Rattle.octants.specs.Octants.{floats_each, factors_each, heights_each, starts_each, met_each, ratios_each, joined_each, conics_each}
-use Rattle.octants.specs.declared.FourOctants.{FourOctants}
-use Rattle.octants.specs.declared.FourConics.{FourConics}
-use Rattle.octants.specs.declared.FourFactors.{FourFactors}
-use Rattle.octants.specs.declared.FourPoints.{FourPoints}
+use Rattle.arcs.specs.Conics.{joined_of, superellipse_conics_of}
+use Rattle.octants.specs.Octants.{start_of, ratio_of, met_of, conics_of}
+use Rattle.octants.specs.declared.Start.{Start}
+use Rattle.octants.specs.declared.Slopes.{Slopes}
+use Rattle.octants.specs.declared.End.{End}
 use Rattle.octants.proofs.conics.Goals as goal
 
--- what the steps make of four octants
-in_step : (o : FourOctants) (n : FourFloats) (f : FourFactors) (y powers less : FourFloats) (j : FourPoints) (slopes at_j rests inverses roots : FourFloats) (h : FourPoints) (slants at_h : FourFloats) (r : FourConics)
-    → n ≡ floats_each (λ (p : Octant). p.se_n) o
-    → f ≡ factors_each o
-    → y ≡ heights_each f o
-    → powers ≡ pairwise_floats pow_of y n
-    → less ≡ each_float (λ (x : Float). x ⊖ one) n
-    → j ≡ starts_each o
-    → slopes ≡ ratios_each j
-    → at_j ≡ pairwise_floats pow_of slopes less
-    → rests ≡ each_float (λ (x : Float). one ⊖ x) powers
-    → inverses ≡ each_float (λ (x : Float). one ⊘ x) n
-    → roots ≡ pairwise_floats pow_of rests inverses
-    → h ≡ met_each o roots y
-    → slants ≡ ratios_each h
-    → at_h ≡ pairwise_floats pow_of slants less
-    → r ≡ joined_each o f h at_h at_j
-    → r ≡ conics_each o
-unfolding superellipse_conics_of
-in_step o n f y powers less j slopes at_j rests inverses roots h slants at_h r e1 e2 e3 e4 e5 e6 e7 e8 e9 e10 e11 e12 e13 e14 e15 =
-    rw (e15, e14, e13, e12, e11, e10, e9, e8, e7, e6, e5, e4, e3, e2, e1)
+abbrev root : Octant → Float
+root o = pow_of (one ⊖ pow_of (start_of o).y o.se_n) (one ⊘ o.se_n)
 
-pub slice_bounds-odd-end : goal.slice_bounds-odd-end
-slice_bounds-odd-end c = enough _ _ 26 12 c.odd_reciprocals-odd.ensures (lit≤ tt)
+abbrev h_of : Octant → Point
+h_of o = met_of (start_of o) (root o)
 
-pub slice_bounds-pow-end : goal.slice_bounds-pow-end
-unfolding terms
-slice_bounds-pow-end c = rw c.odd_reciprocals-odd.ensures
+abbrev both : Float → Float → Slopes
+both h j = record { at_h = h; at_j = j }
 
-pub slice_bounds-inverse-end : goal.slice_bounds-inverse-end
-slice_bounds-inverse-end c = enough _ _ 16 14 c.factorial_reciprocals-inverse.ensures (lit≤ tt)
-
-pub slice_bounds-pow-end-2 : goal.slice_bounds-pow-end-2
-unfolding terms
-slice_bounds-pow-end-2 c = rw c.factorial_reciprocals-inverse.ensures
-
-pub pow-roots-requires : goal.pow-roots-requires
-pow-roots-requires c = (first_odd _ c.odd_reciprocals-odd.ensures, first_factorial _ c.factorial_reciprocals-inverse.ensures)
-
-pub slice_bounds-odd-end-2 : goal.slice_bounds-odd-end-2
-slice_bounds-odd-end-2 c = enough _ _ 26 12 c.odd_reciprocals-odd.ensures (lit≤ tt)
-
-pub slice_bounds-pow-end-3 : goal.slice_bounds-pow-end-3
-unfolding terms
-slice_bounds-pow-end-3 c = rw c.odd_reciprocals-odd.ensures
-
-pub slice_bounds-inverse-end-2 : goal.slice_bounds-inverse-end-2
-slice_bounds-inverse-end-2 c = enough _ _ 16 14 c.factorial_reciprocals-inverse.ensures (lit≤ tt)
-
-pub slice_bounds-pow-end-4 : goal.slice_bounds-pow-end-4
-unfolding terms
-slice_bounds-pow-end-4 c = rw c.factorial_reciprocals-inverse.ensures
-
-pub pow-at_h-requires : goal.pow-at_h-requires
-pow-at_h-requires c = (first_odd _ c.odd_reciprocals-odd.ensures, first_factorial _ c.factorial_reciprocals-inverse.ensures)
+abbrev end : Point → Slopes → End
+end h k = record { h = h; slopes = k }
 
 pub returns : goal.returns
-returns c = (
-  in_step _ _ _ _ _ _ _ _ _ _ _ _ _ _ _ _ c.degrees-n.ensures c.four_factors-f.ensures c.four_heights-y.ensures c.pow_two-both.ensures.0 c.less_one-n_less.ensures c.starts.ensures c.ratios-s.ensures c.pow_two-both.ensures.2 c.complements.ensures c.reciprocals.ensures c.pow-roots.ensures.0 c.four_met-h.ensures c.ratios.ensures c.pow-at_h.ensures.0 c.four_joined.ensures,
-  in_step _ _ _ _ _ _ _ _ _ _ _ _ _ _ _ _ c.degrees-m.ensures c.four_factors-g.ensures c.four_heights-z.ensures c.pow_two-both.ensures.1 c.less_one-m_less.ensures c.starts-2.ensures c.ratios-t.ensures c.pow_two-both.ensures.3 c.complements-2.ensures c.reciprocals-2.ensures c.pow-roots.ensures.1 c.four_met-i.ensures c.ratios-2.ensures c.pow-at_h.ensures.1 c.four_joined-2.ensures,
-)
+unfolding superellipse_conics_of
+returns g c =
+    let o = c.args.o in
+    let s : c.each-s.result ≡ map start_of o = c.each-s.ensures.mapped _ (λ a b e. search rules) in
+    let n : c.each-n.result ≡ map (λ (p : Octant). p.se_n) o = c.each-n.ensures.mapped _ (λ a b e. search rules) in
+    let y = map-of_map (λ (t : Start). t.y) start_of o _ _ s (c.each.ensures.mapped _ (λ a b e. search rules)) in
+    let powers = c.powers-powers.ensures ∙ zip2_of_maps pow_of _ _ o y n in
+    let rests = map-of_map (λ (x : Float). one ⊖ x) _ o _ _ powers (c.each-rests.ensures.mapped _ (λ a b e. search rules)) in
+    let inverses = map-of_map (λ (x : Float). one ⊘ x) _ o _ _ n (c.each-2.ensures.mapped _ (λ a b e. search rules)) in
+    let roots = c.powers-roots.ensures ∙ zip2_of_maps pow_of _ _ o rests inverses in
+    let h : c.pairwise-h.result ≡ map h_of o = c.pairwise-h.ensures met_of (λ a b r e. search rules) ∙ zip2_of_maps met_of start_of root o s roots in
+    let less = map-of_map (λ (x : Float). x ⊖ one) _ o _ _ n (c.each-less.ensures.mapped _ (λ a b e. search rules)) in
+    let slants = map-of_map ratio_of h_of o _ _ h (c.each-3.ensures.mapped ratio_of (λ a b e. search rules)) in
+    let at_h = c.powers-at_h.ensures ∙ zip2_of_maps pow_of _ _ o slants less in
+    let starts : c.each-4.result ≡ map (λ (p : Octant). ratio_of p.circle_start) o = c.each-4.ensures.mapped _ (λ a b e. search rules) in
+    let at_j = c.powers-at_j.ensures ∙ zip2_of_maps pow_of _ _ o starts less in
+    let slopes = c.pairwise-slopes.ensures both (λ a b r e. search rules) ∙ zip2_of_maps both _ _ o at_h at_j in
+    let ends = c.pairwise-ends.ensures end (λ a b r e. search rules) ∙ zip2_of_maps end h_of _ o h slopes in
+    c.pairwise.ensures (λ (t : Start) (e : End). joined_of t.octant t.factors e.h (neg e.slopes.at_h) (neg e.slopes.at_j)) (λ a b r e. search rules)
+    ∙ zip2_of_maps (λ (t : Start) (e : End). joined_of t.octant t.factors e.h (neg e.slopes.at_h) (neg e.slopes.at_j)) start_of _ o s ends

@@ -1,10 +1,9 @@
-use mathlib.Core.Path.{sym, ◌∙◌}
-use Rattle.quadrants.proofs.Corner.{all_solved}
+use Rattle.std.proofs.Common.{rules, sym, ◌∙◌}
+use native.Mathlib.Omega.{arith}
+use Rattle.quadrants.proofs.Corner.{is_round, four-solved}
 use Rattle.quadrants.proofs.solved.Goals as goal
 
-pub returns-then-any_square : goal.returns-then-any_square
-returns-then-any_square c = rw (← c.solved.ensures, ← c.solved-then-any_square.ensures, ← c.solved-then-any_square-2.ensures, ← c.solved-then-any_square-3.ensures)
-
-pub returns : goal.returns
-returns c =
-    all_solved c.args.f _ _ _ _ _ (sym c.any_square.ensures ∙ c.if-any_square.false) c.widths.ensures c.heights.ensures c.radii.ensures c.solve_eight.ensures.0 c.solve_eight.ensures.1 c.finish.ensures
+pub returns-then-all : goal.returns-then-all
+returns-then-all c =
+    rw (c.joined.ensures, c.joined-then-all.ensures, c.joined-then-all-2.ensures, c.joined-then-all-3.ensures, c.round_octants.ensures, c.top_octant.ensures, c.right_octant.ensures, c.top_octant-then-all.ensures, c.right_octant-then-all.ensures, c.top_octant-then-all-2.ensures, c.right_octant-then-all-2.ensures, c.top_octant-then-all-3.ensures, c.right_octant-then-all-3.ensures)
+    (four-solved c.args.f (omega arith) (sym (c.all.ensures is_round (λ a b e. search rules)) ∙ c.if-all.true) _ _ _ _)

@@ -1,13 +1,8 @@
--- The invariant: k is a place of the list, and h is Horner's value of the coefficients from k on. Assumes nothing.
-use mathlib.Core.Path.{◌≡◌}
-use Prim.Native.Nat.{◌<◌}
-use lib.ListN.{length, drop}
-use lib.Ieee.{binary64}
+-- h is Horner's values of the coefficients from k on.
+use Rattle.std.proofs.Common.{◌≡◌, ◌<◌, length, map, drop}
+use Rattle.std.specs.Float.{binary64}
 use Rattle.series.specs.Horner.{horner_of}
 use Rattle.series.proofs.horner.Given as goal
 
 abbrev pub invariant-loop-k : goal.invariant-loop-k
-invariant-loop-k l = (l.k < length l.cs) × (l.h ≡ horner_of binary64 (drop l.k l.cs) l.z)
-
-abbrev pub decreases-loop-k : goal.decreases-loop-k
-decreases-loop-k l = l.k
+invariant-loop-k g l = (l.k < length l.cs) × (l.h ≡ map (horner_of binary64 (drop l.k l.cs)) l.z)

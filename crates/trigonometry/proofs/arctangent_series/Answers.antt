@@ -4,4 +4,4 @@ use Rattle.trigonometry.proofs.arctangent_series.Goals as goal
 
 pub returns : goal.returns
 unfolding series_of H
-returns c = rw (← c.arctangent_coefficients-cs.ensures, ← c.horner.ensures)
+returns c = rw (c.horner.ensures, c.arctangent_coefficients-cs.ensures)

@@ -14,9 +14,8 @@ beyond t = ne t t || lt eight (abs_of t)
 pub returns-then-in_range : goal.returns-then-in_range
 unfolding pair_of widen_of
 returns-then-in_range c =
-    let s = c.before.before.before.before.before.before in
-    let inside = not-true (beyond s.before.before.args.t) (sym s.before.in_range.ensures ∙ s.if-in_range.true) in
-    rw (inside, ← c.widen.ensures, ← c.sixteenth.ensures, ← c.doubled.ensures, ← c.doubled-then-in_range.ensures, ← c.doubled-then-in_range-2.ensures, ← c.doubled-then-in_range-3.ensures)
+    let inside = not-true (beyond c.args.t) (sym c.in_range.ensures ∙ c.if-in_range.true) in
+    rw (inside, c.sixteenfold.ensures, c.sixteenths.ensures, c.widen.ensures)
 
 pub returns : goal.returns
 unfolding pair_of widen_of

@@ -1,16 +1,16 @@
-use mathlib.Core.Path.{sym, ap, ◌∙◌}
-use Rattle.trigonometry.specs.Sine.{sixteenth_of}
-use Rattle.turns.specs.Turns.{pairs_each}
-use Rattle.ieee.proofs.Tests.{both}
-use Rattle.turns.proofs.Doubling.{pairs_in_range}
+use Rattle.std.proofs.Common.{◌≡◌, rules, map, sym, ◌∙◌}
+use lib.Ieee.{Float}
+use Rattle.ieee.specs.Basic.{widen_of}
+use Rattle.trigonometry.specs.Sine.{sixteenth_of, doubled_of, pair_of}
+use Rattle.trigonometry.specs.declared.Pair.{Pair}
+use Rattle.lanes.proofs.Places.{map-of_map, map-agree}
+use Rattle.turns.specs.Turns.{in_range}
+use Rattle.turns.proofs.Ranges.{pair-in_range}
 use Rattle.turns.proofs.pairs_at.Goals as goal
 
-pub returns-then-all_in_range : goal.returns-then-all_in_range
-returns-then-all_in_range c =
-    let e = c.pairs_of_sixteenths-p.ensures in
-    let t = c.all_in_range in
-    let u = c.all_in_range-2 in
-    let in-range = both t.result u.result c.if-all_in_range.true in (
-      c.doubled_four_times.ensures ∙ pairs_in_range _ _ (sym t.ensures ∙ in-range.0) (e.0 ∙ ap (pairs_each sixteenth_of) c.widen.ensures),
-      c.doubled_four_times-then-all_in_range.ensures ∙ pairs_in_range _ _ (sym u.ensures ∙ in-range.1) (e.1 ∙ ap (pairs_each sixteenth_of) c.widen-then-all_in_range.ensures),
-    )
+pub returns-then-all : goal.returns-then-all
+returns-then-all g c =
+    let t = c.args.t in
+    let p : c.sixteenths-p.result ≡ map (λ (x : Float). sixteenth_of (widen_of x)) t = map-of_map sixteenth_of widen_of t _ _ c.widen.ensures c.sixteenths-p.ensures in
+    map-of_map (λ (q : Pair). doubled_of (doubled_of (doubled_of (doubled_of q)))) _ t _ _ p (c.each.ensures.mapped _ (λ a b e. search rules))
+    ∙ map-agree in_range _ (λ (x : Float). pair_of (widen_of x)) pair-in_range t (sym (c.all.ensures in_range (λ a b e. e)) ∙ c.if-all.true)
