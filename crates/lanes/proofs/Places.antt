@@ -36,9 +36,9 @@ pub each-from_calls : {F B : Type 0} (g : Mut F (ℕ × Unit {0}) B) (f : F) (R 
 each-from_calls g f R k ys i zero r j e l h = absurd (omega arith)
 each-from_calls g f R k ys i (suc n) (q, y, at, called, rest) j e l h = first_or_later (eq-or-lt_of_le l) (λ later. each-from_calls g f R k ys (i + 1) n (subst (λ p. IsFromFnResultFrom g p ys (i + 1) n) (k i y q called).0 rest) j e (omega arith) (omega arith))
   where
-  first_or_later : (i ≡ j) ⊎ (i < j) → (i < j → R j (slice_index_or ys j e)) → R j (slice_index_or ys j e)
-  first_or_later (inl same) r = subst (λ m. R m (slice_index_or ys m e)) same (subst (R i) (sym (at.1 e)) (k i y q called).1)
-  first_or_later (inr later) r = r later
+    first_or_later : (i ≡ j) ⊎ (i < j) → (i < j → R j (slice_index_or ys j e)) → R j (slice_index_or ys j e)
+    first_or_later (inl same) r = subst (λ m. R m (slice_index_or ys m e)) same (subst (R i) (sym (at.1 e)) (k i y q called).1)
+    first_or_later (inr later) r = r later
 
 pub ap₃ : {A B C D : Type 0} (f : A → B → C → D) {a b : A} {c d : B} {e g : C} → a ≡ b → c ≡ d → e ≡ g → f a c e ≡ f b d g
 ap₃ f p q r = rw (p, q, r)

@@ -15,13 +15,13 @@ pub fn each<A: Copy, B, F: Fn(A) -> B, const N: usize>(x: [A; N], f: F) -> [B; N
     ensures values { AllZip (F.post f) x result }
     ensures mapped { (g : A → B) → ((a : A) (b : B) → F.post f a b → b ≡ g a) → result ≡ map g x }
 {
-    std::array::from_fn(|i: usize| -> B
-        requires within { i < N }
-        requires callable { (d : A) → F.pre f (slice_index_or x i d) }
-        ensures { (d : A) → F.post f (slice_index_or x i d) result }
-    {
-        f(x[i])
-    })
+    std::array::from_fn(
+        |i: usize| -> B
+            requires within { i < N }
+            requires callable { (d : A) → F.pre f (slice_index_or x i d) }
+            ensures { (d : A) → F.post f (slice_index_or x i d) result }
+        { f(x[i]) },
+    )
 }
 
 // What f makes of each two at the same place.
@@ -33,13 +33,13 @@ pub fn pairwise<A: Copy, B: Copy, C, F: Fn(A, B) -> C, const N: usize>(
     requires { (a : A) (b : B) → F.pre f a b }
     ensures { (g : A → B → C) → ((a : A) (b : B) (c : C) → F.post f a b c → c ≡ g a b) → result ≡ zip2 g x y }
 {
-    std::array::from_fn(|i: usize| -> C
-        requires within { i < N }
-        requires callable { (a : A) (b : B) → F.pre f a b }
-        ensures { (d : A) (e : B) → F.post f (slice_index_or x i d) (slice_index_or y i e) result }
-    {
-        f(x[i], y[i])
-    })
+    std::array::from_fn(
+        |i: usize| -> C
+            requires within { i < N }
+            requires callable { (a : A) (b : B) → F.pre f a b }
+            ensures { (d : A) (e : B) → F.post f (slice_index_or x i d) (slice_index_or y i e) result }
+        { f(x[i], y[i]) },
+    )
 }
 
 // Whether f says so of each. By `&`, not `&&`: as many tests, and one branch.

@@ -36,13 +36,12 @@ struct End {
 fn started(octant: Octant) -> Start
     ensures { result ≡ start_of octant }
 {
-    let factors = arcs::superellipse_conic_factors(octant.se_n, octant.circle_start.x / octant.se_a);
+    let factors = arcs::superellipse_conic_factors(
+        octant.se_n,
+        octant.circle_start.x / octant.se_a,
+    );
     let y = arcs::meeting(factors, octant.circle_start.y / octant.se_a);
-    Start {
-        octant,
-        factors,
-        y,
-    }
+    Start { octant, factors, y }
 }
 
 // The slope of the radius to a point, which a power makes the slope of the tangent, but for the sign.
@@ -104,10 +103,14 @@ pub fn arcs<const N: usize>(o: [Octant; N]) -> [[Point; 4]; N]
 {
     let turns = turns::sin_cos(lanes::each(o, |o| -o.circle_max_angle));
     let tans = turns::tan(lanes::each(o, |o| o.circle_max_angle / 4.0));
-    let t = lanes::pairwise(turns, tans, |t, tan| Turn {
-        sin: t.sin,
-        cos: t.cos,
-        tan,
-    });
+    let t = lanes::pairwise(
+        turns,
+        tans,
+        |t, tan| Turn {
+            sin: t.sin,
+            cos: t.cos,
+            tan,
+        },
+    );
     lanes::pairwise(o, t, arc)
 }

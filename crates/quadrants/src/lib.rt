@@ -14,7 +14,16 @@ pub fn solved(f: [Frame; 4]) -> [Quadrant; 4]
 {
     if lanes::all(f, |f| !(f.radius <= octant::CLOSE_ENOUGH)) {
         let [p, q, r, s] = f;
-        let [p_top, p_right, q_top, q_right, r_top, r_right, s_top, s_right] = octant::round_octants([
+        let [
+            p_top,
+            p_right,
+            q_top,
+            q_right,
+            r_top,
+            r_right,
+            s_top,
+            s_right,
+        ] = octant::round_octants([
             quadrant::top_octant(p),
             quadrant::right_octant(p),
             quadrant::top_octant(q),

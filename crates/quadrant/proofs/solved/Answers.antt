@@ -15,11 +15,11 @@ returns-then-is_one_float c =
     let same = c.is_one_float.ensures c.if-is_one_float.true in
     let top : c.compute_octant-top.result ≡ compute_octant_of (top_offset_of f) half.x f.radius = c.compute_octant-top.ensures ∙ ap (λ p. compute_octant_of p half.x f.radius) c.top_offset.ensures in
     let right : c.moved.result ≡ compute_octant_of (right_offset_of f) half.y f.radius =
-        c.moved.ensures
-            ∙ ap (λ p. moved_of c.compute_octant-top.result p) c.right_offset.ensures
-            ∙ ap (λ (o : Octant). moved_of o (right_offset_of f)) top
-            ∙ moved_octant (top_offset_of f) (right_offset_of f) half.x f.radius
-            ∙ ap (λ (x : Float). compute_octant_of (right_offset_of f) x f.radius) same in
+    c.moved.ensures
+    ∙ ap (λ p. moved_of c.compute_octant-top.result p) c.right_offset.ensures
+    ∙ ap (λ (o : Octant). moved_of o (right_offset_of f)) top
+    ∙ moved_octant (top_offset_of f) (right_offset_of f) half.x f.radius
+    ∙ ap (λ (x : Float). compute_octant_of (right_offset_of f) x f.radius) same in
     rw (c.joined.ensures, right, top)
 
 pub returns : goal.returns

@@ -22,5 +22,5 @@ loop-k-preserved g c =
     let k = c.loop-k.k in
     let e : suc (k - 1) ≡ k = omega arith in
     let step : (z : Float) → add binary64 (mul binary64 (horner_of binary64 (drop k cs) z) z) (get_or cs (k - 1) nan) ≡ horner_of binary64 (drop (k - 1) cs) z =
-        λ z. sym (rw e at (horner_down binary64 z cs (k - 1) nan (omega arith))) in
+    λ z. sym (rw e at (horner_down binary64 z cs (k - 1) nan (omega arith))) in
     (omega arith, c.pairwise-h.ensures (λ h z. add binary64 (mul binary64 h z) (get_or cs (k - 1) nan)) (λ a b r p. search rules) ∙ rw c.loop-k.invariant.1 (zip2-over_map _ _ _ step c.args.z))
