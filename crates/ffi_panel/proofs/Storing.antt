@@ -1,10 +1,9 @@
 -- Numbers and floats that are stored one behind the other. Assumes nothing.
-use mathlib.Core.Path.{◌≡◌, refl, sym, ap, ◌∙◌}
+use mathlib.Core.Path.{◌≡◌, refl, ap, ◌∙◌}
 use mathlib.Core.List.{List, [], ◌∷◌, ◌++◌}
-use Prim.Native.Nat.{ℕ, zero, suc, ◌+◌, ◌<◌}
+use Prim.Native.Nat.{ℕ, ◌+◌}
 use native.Mathlib.Omega.{arith}
-use native.Mathlib.Numerals.{add-one}
-use lib.ListN.{length, get_or, set, take, drop}
+use lib.ListN.{length, set}
 use lib.Ieee.{Float}
 use Rattle.stream.specs.Stream.{put, floats_in}
 use Rattle.stream.proofs.Put.{put-after}
@@ -41,18 +40,3 @@ button-stored l m₁ m₂ m₃ m₄ m₅ m₆ b e₁ e₂ e₃ e₄ e₅ e₆ =
     let s₄ = grown l m₃ m₄ 6 _ (floats_in (b.top_right ∷ [])) refl s₃ e₄ in
     let s₅ = grown l m₄ m₅ 8 _ (floats_in (b.bottom_left ∷ [])) refl s₄ e₅ in
     grown l m₅ m₆ 10 _ (floats_in (b.bottom_right ∷ [])) refl s₅ e₆
-
--- ---- results copied to the front
-
-copy-suc : (n : ℕ) (found l : List ℕ) → n < length found → n < length l → set (take n found ++ drop n l) n (get_or found n 0) ≡ take (suc n) found ++ drop (suc n) l
-copy-suc n [] l h k = absurd (omega arith)
-copy-suc n (f ∷ found) [] h k = absurd (omega arith)
-copy-suc zero (f ∷ found) (x ∷ l) h k = refl
-copy-suc (suc n) (f ∷ found) (x ∷ l) h k = ap (λ (r : List ℕ). f ∷ r) (copy-suc n found l (omega arith) (omega arith))
-
--- one more
-pub copy_more : (n : ℕ) (found l l' : List ℕ) → n < length found → n < length l → l' ≡ take n found ++ drop n l → set l' n (get_or found n 0) ≡ take (n + 1) found ++ drop (n + 1) l
-copy_more n found l l' h k e =
-    ap (λ (r : List ℕ). set r n (get_or found n 0)) e
-    ∙ copy-suc n found l h k
-    ∙ ap (λ (m : ℕ). take m found ++ drop m l) (sym (add-one n))

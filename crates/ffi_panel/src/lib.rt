@@ -3,14 +3,14 @@
 
 #![tactic(auto)]
 
-ghost use Rattle.std.specs.Prelude.{◌≡◌, [], ◌∷◌, ◌++◌, ◌+◌, ◌≤◌, length, take, drop};
+ghost use Rattle.std.specs.Prelude.{◌≡◌, [], ◌∷◌, ◌+◌, ◌≤◌, length};
 ghost use Rattle.stream.specs.Stream.{put, floats_in};
 ghost use Rattle.octant.specs.Octant.{point};
 ghost use Rattle.ffi_panel.specs.Asking.{answered, left, kind_number, record_floats, record_of, place_of_touch, places_of_touches};
 
 use geometry::Point;
-use panel_file::{Button, Read, Record};
-use touch::{MOST_TOUCHES, Touched, TouchedAll};
+use panel_file::{Button, Record};
+use touch::MOST_TOUCHES;
 
 // A record's place holds an offset and a kind; its floats are at most a button's.
 const RECORD_PLACE: usize = 2;
@@ -19,8 +19,6 @@ const RECORD_FLOATS: usize = 12;
 
 // A touch's place holds an index, a count or an offset.
 const TOUCH_PLACE: usize = 1;
-
-const BROKEN: u32 = 7;
 
 const WRONG_LENGTH: u32 = 100;
 
@@ -77,18 +75,18 @@ pub fn shackletongue_record(file: &[u8], place: &mut [u64], floats: &mut [f32]) 
         return WRONG_LENGTH;
     }
     match panel_file::record_at(file, place[0] as usize) {
-        Read::Record(record, next) => {
+        Ok(Some((record, next))) => {
             place[0] = next as u64;
             place[1] = store_record(floats, record);
             0
         }
-        Read::End => {
+        Ok(None) => {
             place[1] = 0;
             0
         }
-        Read::Broken(at) => {
-            place[0] = at as u64;
-            BROKEN
+        Err(broken) => {
+            place[0] = broken.offset as u64;
+            u32::from(broken.number())
         }
     }
 }
@@ -102,27 +100,15 @@ pub fn shackletongue_touch(file: &[u8], x: f32, y: f32, place: &mut [u64]) -> u3
         return WRONG_LENGTH;
     }
     match touch::touch(file, Point { x, y }) {
-        Touched::Shape(index) => {
+        Ok(Some(index)) => {
             place[0] = index as u64;
             0
         }
-        Touched::Nowhere => NONE,
-        Touched::Broken(at) => {
-            place[0] = at as u64;
-            BROKEN
+        Ok(None) => NONE,
+        Err(broken) => {
+            place[0] = broken.offset as u64;
+            u32::from(broken.number())
         }
-    }
-}
-
-// The first n of `found` to the front of the results.
-fn store_results(results: &mut [u32], found: &[u32], n: usize)
-    requires { (n ≤ length results.old) × (n ≤ length found.now) }
-    ensures { results.new ≡ take n found.now ++ drop n results.old }
-{
-    let mut i = 0;
-    while i < n {
-        results[i] = found[i];
-        i += 1;
     }
 }
 
@@ -132,22 +118,20 @@ fn store_results(results: &mut [u32], found: &[u32], n: usize)
 pub fn shackletongue_touch_all(file: &[u8], results: &mut [u32], place: &mut [u64]) -> u32
     ensures { left result place.new results.new ≡ places_of_touches file.now results.old place.old }
 {
-    if results.len() != MOST_TOUCHES {
+    let Some(results) = results.as_mut_array::<MOST_TOUCHES>() else {
         return WRONG_LENGTH;
-    }
+    };
     if place.len() != TOUCH_PLACE {
         return WRONG_LENGTH;
     }
-    let mut found = [0u32; MOST_TOUCHES];
-    match touch::touch_all(file, &mut found) {
-        TouchedAll::Done(n) => {
-            store_results(results, &found, n);
+    match touch::touch_all(file, results) {
+        Ok(n) => {
             place[0] = n as u64;
             0
         }
-        TouchedAll::Broken(at) => {
-            place[0] = at as u64;
-            BROKEN
+        Err(broken) => {
+            place[0] = broken.offset as u64;
+            u32::from(broken.number())
         }
     }
 }

@@ -1,6 +1,5 @@
 -- Laws of the lines of an inspection, one record after the other. Assumes nothing.
 use mathlib.Core.Path.{◌≡◌, refl, sym, ap, ◌∙◌}
-use mathlib.Core.Bool.{Bool, true, false}
 use mathlib.Core.List.{List, [], ◌∷◌, ◌++◌, append-nil}
 use Prim.Native.Nat.{ℕ, ◌+◌, ◌≤◌}
 use native.Mathlib.Omega.{arith}
@@ -11,18 +10,11 @@ use Rattle.geometry.specs.declared.Point.{Point}
 use Rattle.panel_file.specs.declared.Record.{Record}
 use Rattle.panel_file.specs.declared.Record.TheVariants.{Button as ButtonRecord, Touch as TouchRecord}
 use Rattle.panel_file.specs.declared.Button.{Button}
-use Rattle.std.proofs.Common.{Result, Ok}
-use Rattle.shape.specs.declared.ShapeError.{ShapeError}
-use Rattle.shape.specs.declared.RoundSuperellipse.{RoundSuperellipse}
-use Rattle.shape.specs.Refusal.{outcome_of, refused}
-use Rattle.touch.specs.Touch.{shape_of}
-use Rattle.inspection.specs.Inspection.{consistent_of}
 use Rattle.report_line.specs.declared.Line.{Line}
-use Rattle.report_line.specs.declared.Line.TheVariants.{Refused, Consistent, Apart}
 use Rattle.report_line.specs.Line.{line_of}
 use Rattle.report_line.proofs.Writing.{one_line}
 use Rattle.report_line.specs.Text.{text_of, Over}
-use Rattle.inspection_report.specs.Findings.{finding_of, finding, findings_at, next_index, findings_of}
+use Rattle.inspection_report.specs.Findings.{finding, findings_at, next_index, findings_of}
 
 -- ---- the records one after the other
 

@@ -3,13 +3,13 @@
 
 #![tactic(auto)]
 
-ghost use Rattle.std.specs.Prelude.{◌≡◌, true, ◌++◌, ◌+◌, ◌<◌, ◌≤◌, length, drop};
+ghost use Rattle.std.specs.Prelude.{◌≡◌, ◌++◌, ◌+◌, ◌<◌, ◌≤◌, length, drop};
 ghost use Rattle.io.specs.Counts.{IsPrefixLen};
-ghost use Rattle.panel_file.specs.Panel.{records_of, is_done, records_in};
+ghost use Rattle.panel_file.specs.File.{records};
 ghost use Rattle.report_line.specs.Text.{text_of, Over};
 ghost use Rattle.inspection_report.specs.Findings.{finding, findings_at, next_index, findings_of, inspection_of};
 
-use panel_file::{Button, Checked, Read, Record};
+use panel_file::{Button, PanelFile, Record};
 use report_line::Line;
 use shape::Bounds;
 
@@ -31,6 +31,7 @@ fn finding_line(index: usize, button: Button) -> Line
 }
 
 // The index of the next button.
+#[tactic(auto, unfolding(crate::specs::Findings::next_index))]
 fn index_past(record: Record, index: usize) -> usize
     requires { index < 65536 }
     ensures { result ≡ next_index «record» index }
@@ -54,22 +55,17 @@ fn put_finding(record: Record, index: usize, out: &mut [u8; 393288], at: usize) 
 }
 
 // The report on a good file.
-fn put_findings(file: &[u8], out: &mut [u8; 393288]) -> usize
-    requires { is_done (records_of file.now) ≡ true }
+fn put_findings(file: &PanelFile, out: &mut [u8; 393288]) -> usize
     ensures prefix_len { IsPrefixLen result out.new }
-    ensures over { Over out.old 0 (text_of (findings_of 0 (records_in (records_of file.now)))) result out.new }
+    ensures over { Over out.old 0 (text_of (findings_of 0 (records file.now))) result out.new }
 {
-    let mut at = 0;
     let mut n = 0;
     let mut index = 0;
-    loop {
-        let Read::Record(record, next) = panel_file::record_at(file, at) else {
-            return n;
-        };
+    for record in file.records() {
         n = put_finding(record, index, out, n);
         index = index_past(record, index);
-        at = next;
     }
+    n
 }
 
 // The report's text, at the start of out; the answer is its length. What is past it stays.
@@ -78,8 +74,12 @@ pub fn inspect(file: &[u8], out: &mut [u8; 393288]) -> usize
     ensures value { result ≡ length (text_of (inspection_of file.now)) }
     ensures out_after { out.new ≡ text_of (inspection_of file.now) ++ drop result out.old }
 {
-    match panel_file::check(file) {
-        Checked::Good(_) => put_findings(file, out),
-        Checked::Broken(at) => report_line::put_line(Line::Broken(7, at), out, 0),
+    match PanelFile::new(file) {
+        Ok(file) => put_findings(&file, out),
+        Err(broken) => report_line::put_line(
+            Line::Broken(usize::from(broken.number()), broken.offset),
+            out,
+            0,
+        ),
     }
 }

@@ -1,9 +1,9 @@
 -- How a report is written, one record after the other. Cited by the contracts of inner functions. Definitions only.
-use Rattle.std.specs.Prelude.{ℕ, ◌+◌, ◌≡◌, List, map, length, take, drop}
+use Rattle.std.specs.Prelude.{ℕ, ◌≡◌, List, map, length, take, drop}
 use Rattle.panel_file.specs.declared.Counts.{Counts}
 use Rattle.panel_file.specs.declared.Record.{Record}
 use Rattle.panel_file.specs.declared.Record.TheVariants.{Button as ButtonRecord, Touch as TouchRecord}
-use Rattle.panel_file.specs.Panel.{touches_of}
+use Rattle.panel_file.specs.Panel.{touches_of, counted_of, kind_of_record}
 use Rattle.touch.specs.Touch.{shape_of, code_of, place_of, place_among}
 use Rattle.report_line.specs.declared.Line.{Line}
 use Rattle.report.specs.Report.{shape_line, touch_line}
@@ -14,9 +14,8 @@ line_for (ButtonRecord b) index code = shape_line index (shape_of b)
 line_for (TouchRecord p) index code = touch_line (place_of code)
 
 -- how many records of each kind there are, with one more
-unfoldable pub passed : Counts → Record → Counts
-passed c (ButtonRecord b) = record { buttons = c.buttons + 1; touches = c.touches }
-passed c (TouchRecord p) = record { buttons = c.buttons; touches = c.touches + 1 }
+abbrev pub passed : Counts → Record → Counts
+passed c r = counted_of c (kind_of_record r)
 
 -- the places that the touches among rs go to, as numbers, stand in `touched` from index t on; they are looked for among all records
 unfoldable pub Placed : List Record → List ℕ → ℕ → List Record → Type 0

@@ -2,19 +2,19 @@
 
 #![tactic(auto)]
 
-ghost use Rattle.std.specs.Prelude.{◌≡◌, true, ◌++◌, ◌<◌, length, drop};
+ghost use Rattle.std.specs.Prelude.{◌≡◌, ◌++◌, length, drop};
 ghost use Rattle.io.specs.Counts.{IsPrefixLen};
 ghost use Rattle.shape.specs.Refusal.{outcome_of};
-ghost use Rattle.panel_file.specs.Panel.{records_of, is_done, records_in};
+ghost use Rattle.panel_file.specs.File.{records};
 ghost use Rattle.touch.specs.Touch.{place_of};
 ghost use Rattle.report_line.specs.Text.{text_of, Over};
 ghost use Rattle.report.specs.Report.{shape_line, touch_line, lines_of, report_of};
-ghost use Rattle.report.specs.Lines.{line_for, passed, Placed};
+ghost use Rattle.report.specs.Lines.{line_for, Placed};
 
-use panel_file::{Counts, Read, Record};
+use panel_file::{Counts, PanelFile, Record};
 use report_line::Line;
 use shape::{RoundSuperellipse, ShapeError};
-use touch::{NOWHERE, TouchedAll};
+use touch::{MOST_TOUCHES, NOWHERE};
 
 #[tactic(auto, unfolding(crate::specs::Report::shape_line, crate::specs::Report::drawn, shape::specs::Refusal::outcome_of))]
 fn shape_line(index: usize, made: Result<RoundSuperellipse, ShapeError>) -> Line
@@ -29,6 +29,7 @@ fn shape_line(index: usize, made: Result<RoundSuperellipse, ShapeError>) -> Line
     }
 }
 
+#[tactic(auto, unfolding(crate::specs::Report::touch_line, touch::specs::Touch::place_of))]
 fn touch_line(code: u32) -> Line
     ensures { result ≡ touch_line (place_of code) }
 {
@@ -38,6 +39,7 @@ fn touch_line(code: u32) -> Line
     Line::Touch(code as usize)
 }
 
+#[tactic(auto, unfolding(crate::specs::Lines::line_for))]
 fn line_for(record: Record, index: usize, code: u32) -> Line
     ensures { result ≡ line_for «record» index code }
 {
@@ -47,45 +49,20 @@ fn line_for(record: Record, index: usize, code: u32) -> Line
     }
 }
 
-// The counts with one record more.
-fn pass(c: Counts, record: Record) -> Counts
-    requires { (c.buttons < 65536) × (c.touches < 65536) }
-    ensures { result ≡ passed c «record» }
-{
-    match record {
-        Record::Button(_) => Counts {
-            buttons: c.buttons + 1,
-            touches: c.touches,
-        },
-        Record::Touch(_) => Counts {
-            buttons: c.buttons,
-            touches: c.touches + 1,
-        },
-    }
-}
-
 // The report on a good file, with the places of its touches.
-fn put_lines(file: &[u8], touched: &[u32; 5461], out: &mut [u8; 393288]) -> usize
-    requires { (is_done (records_of file.now) ≡ true) × Placed (records_in (records_of file.now)) touched.now 0 (records_in (records_of file.now)) }
+fn put_lines(file: &PanelFile, touched: &[u32; 5461], out: &mut [u8; 393288]) -> usize
+    requires { Placed (records file.now) touched.now 0 (records file.now) }
     ensures prefix_len { IsPrefixLen result out.new }
-    ensures over { Over out.old 0 (text_of (lines_of (records_in (records_of file.now)) 0 (records_in (records_of file.now)))) result out.new }
+    ensures over { Over out.old 0 (text_of (lines_of (records file.now) 0 (records file.now))) result out.new }
 {
-    let mut at = 0;
     let mut n = 0;
-    let mut counts = Counts {
-        buttons: 0,
-        touches: 0,
-    };
-    loop {
-        let Read::Record(record, next) = panel_file::record_at(file, at) else {
-            return report_line::put_line(Line::End, out, n);
-        };
-        let t = counts.touches;
-        let line = line_for(record, counts.buttons, touched[t]);
+    let mut counts = Counts::default();
+    for record in file.records() {
+        let line = line_for(record, counts.buttons, touched[counts.touches]);
         n = report_line::put_line(line, out, n);
-        counts = pass(counts, record);
-        at = next;
+        counts = counts.with(record.kind());
     }
+    report_line::put_line(Line::End, out, n)
 }
 
 // The report's text, at the start of out; the answer is its length. What is past it stays.
@@ -94,9 +71,16 @@ pub fn report(file: &[u8], out: &mut [u8; 393288]) -> usize
     ensures value { result ≡ length (text_of (report_of file.now)) }
     ensures out_after { out.new ≡ text_of (report_of file.now) ++ drop result out.old }
 {
-    let mut touched = [0u32; 5461];
-    match touch::touch_all(file, &mut touched) {
-        TouchedAll::Done(_) => put_lines(file, &touched, out),
-        TouchedAll::Broken(at) => report_line::put_line(Line::Broken(7, at), out, 0),
+    match PanelFile::new(file) {
+        Ok(file) => {
+            let mut touched = [NOWHERE; MOST_TOUCHES];
+            touch::places(&file, &mut touched);
+            put_lines(&file, &touched, out)
+        }
+        Err(broken) => report_line::put_line(
+            Line::Broken(usize::from(broken.number()), broken.offset),
+            out,
+            0,
+        ),
     }
 }

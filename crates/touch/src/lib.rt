@@ -187,15 +187,17 @@ fn gather(file: &PanelFile, points: &mut [f32])
     }
 }
 
-// The answers to the n touches of a good file, in the first n results.
-fn answer(file: &PanelFile, n: usize, results: &mut [u32])
-    requires { (n ≡ length (touches_of (records file.now))) × (n ≤ 5461) × (n ≤ length results.old) }
-    ensures { results.new ≡ places_of (records file.now) ++ drop n results.old }
+// Where the touches of a good file go, in file order; the answer counts them. Results past them stay as they were.
+pub fn places(file: &PanelFile, results: &mut [u32; 5461]) -> usize
+    ensures count { result ≡ length (touches_of (records file.now)) }
+    ensures results_after { results.new ≡ places_of (records file.now) ++ drop result results.old }
 {
+    let n = file.counts().touches;
     let mut points = [0.0f32; 10922];
     gather(file, &mut points);
     results[..n].fill(NOWHERE);
     search(file, &points[..2 * n], &mut results[..n]);
+    n
 }
 
 // `touch` for every touch of the file, in file order, each shape made once. Results past the file's touches stay as they were.
@@ -203,7 +205,5 @@ pub fn touch_all(file: &[u8], results: &mut [u32; 5461]) -> Result<usize, Broken
     ensures { left (count_of result) results.new ≡ touch_all_of file.now results.old }
 {
     let file = PanelFile::new(file)?;
-    let n = file.counts().touches;
-    answer(&file, n, results);
-    Ok(n)
+    Ok(places(&file, results))
 }

@@ -1,7 +1,6 @@
 -- `touch::touch_all` meets its contract.
-use Rattle.std.proofs.Common.{ℕ, ◌++◌, drop, ap, ap₂, ◌∙◌, arith, rules}
-use Rattle.panel_file.specs.declared.Counts.{Counts}
-use Rattle.panel_file.specs.Panel.{done, counts_of}
+use Rattle.std.proofs.Common.{◌++◌, drop, ap, ap₂, ◌∙◌, ℕ, rules}
+use Rattle.panel_file.specs.Panel.{done}
 use Rattle.panel_file.specs.File.{records, opened_of}
 use Rattle.touch.specs.Touch.{left, count_of, places_of, left_of, touch_all_of}
 use Rattle.touch.proofs.touch_all.Goals as goal
@@ -10,13 +9,9 @@ pub returns-in_err-file : goal.returns-in_err-file
 unfolding touch_all_of left_of count_of opened_of
 returns-in_err-file c = let e = c.in_err-file.ensures in rw (← e) (search rules)
 
-pub answer-requires : goal.answer-requires
-unfolding counts_of
-answer-requires c = (ap (λ (k : Counts). k.touches) c.counts-n.ensures.value, c.counts-n.ensures.most, omega (arith, c.counts-n.ensures.most))
-
 pub returns : goal.returns
-unfolding touch_all_of left_of count_of opened_of counts_of
+unfolding touch_all_of left_of count_of opened_of
 returns c =
     let e = c.in_ok-file.ensures in
-    let n = ap (λ (k : Counts). k.touches) c.counts-n.ensures.value in
-    rw (← e) (ap₂ left (ap done n) (c.answer.ensures ∙ ap (λ (k : ℕ). places_of (records c.in_ok-file.file) ++ drop k c.args.results.now) n))
+    let n = c.places.ensures.count in
+    rw (← e) (ap₂ left (ap done n) (c.places.ensures.results_after ∙ ap (λ (k : ℕ). places_of (records c.in_ok-file.file) ++ drop k c.args.results.now) n))
