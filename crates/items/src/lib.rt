@@ -2,22 +2,20 @@
 
 #![tactic(auto)]
 
-ghost use Rattle.std.specs.Prelude.{◌≡◌};
-ghost use Rattle.text.specs.Numbers.{same_text};
-ghost use Rattle.items.specs.Items.{counts_of, has_words, of_counts, of_record, of_two, of_four, of_floats, of_shape, of_name, has_counts, of_words, item_of};
+ghost use Rattle.std.specs.Prelude.{◌≡◌, cond, Some, None};
+ghost use Rattle.text.specs.Words.{after_word};
+ghost use Rattle.items.specs.Items.{counts_of, has_words, of_counts, of_record, of_two, of_four, of_floats, of_shape, of_name, has_counts, of_words, item_of, from_floats};
+ghost use Rattle.operands.specs.Operands.{operands_of};
 
 use geometry::Point;
-use operands::Operands;
 use outline::BuildingCall;
 use reader::Cursor;
 use shape::{Bounds, CornerRadii};
+use std::{error, fmt};
 use stream::Builder;
-use text::Number;
 
 #[derive(Drop)]
 pub enum Item {
-    Nothing,
-    Bad,
     Buffers(usize, usize),
     Build(BuildingCall),
     Outline(Bounds, CornerRadii),
@@ -31,217 +29,202 @@ pub enum Item {
     Contains(Bounds, CornerRadii, Point),
 }
 
-#[derive(Drop)]
-enum Pair {
-    Of(usize, usize),
-    Nothing,
+// A line that asks for nothing that there is.
+#[derive(Clone, Copy, Debug, PartialEq, Eq)]
+pub struct BadLine;
+
+impl fmt::Display for BadLine {
+    fn fmt<W: fmt::Write>(&self, f: &mut fmt::Formatter<W>) -> fmt::Result {
+        f.write_str("bad line")
+    }
 }
 
-fn named(word: &[u8], name: &[u8]) -> bool
-    ensures { result ≡ same_text word.now name.now }
-{
-    check::same(word, name)
-}
+impl error::Error for BadLine {}
 
-// The first two words as numbers.
-fn counts(line: &[u8]) -> Pair
+// The first two words as numbers, and what follows them.
+#[tactic(auto, unfolding(crate::specs::Items::counts_of, crate::specs::Items::pair_of))]
+fn counts(line: &[u8]) -> Option<(usize, usize)>
     ensures { result ≡ counts_of line.now }
 {
-    let first = text::read_decimal(text::first_word(line));
-    let Number::Of(a) = first else {
-        return Pair::Nothing;
-    };
-    let rest = text::after_word(line);
-    let second = text::read_decimal(text::first_word(rest));
-    let Number::Of(b) = second else {
-        return Pair::Nothing;
-    };
-    Pair::Of(a as usize, b as usize)
+    let (first, rest) = text::split_word(line)?;
+    let (second, _) = text::split_word(rest)?;
+    let a = text::read_number(first, 10)?;
+    let b = text::read_number(second, 10)?;
+    Some((a as usize, b as usize))
 }
 
+// What follows the first two words.
+fn after_words(line: &[u8]) -> &[u8]
+    ensures { result.now ≡ after_word (after_word line.now) }
+{
+    text::after_word(text::after_word(line))
+}
+
+#[tactic(auto, unfolding(crate::specs::Items::has_words))]
 fn has_words(line: &[u8]) -> bool
     ensures { result ≡ has_words line.now }
 {
-    text::first_word(line).len() > 0
+    text::split_word(line).is_some()
 }
 
 // A name with two numbers and no more.
-fn of_counts(name: &[u8], line: &[u8]) -> Item
+#[tactic(auto, unfolding(crate::specs::Items::of_counts, crate::specs::Items::from_counts))]
+fn of_counts(name: &[u8], line: &[u8]) -> Option<Item>
     ensures { result ≡ of_counts name.now line.now }
 {
-    let rest = text::after_word(line);
-    if has_words(text::after_word(rest)) {
-        return Item::Bad;
+    if has_words(after_words(line)) {
+        return None;
     }
-    let pair = counts(line);
-    let Pair::Of(a, b) = pair else {
-        return Item::Bad;
-    };
-    if named(name, b"buffers") {
-        return Item::Buffers(a, b);
-    }
-    if named(name, b"raw") {
-        return Item::Raw(a, b);
-    }
-    Item::At(Cursor { verb: a, point: b })
-}
-
-fn of_record(line: &[u8]) -> Item
-    ensures { result ≡ of_record line.now }
-{
-    let rest = text::after_word(line);
-    let o = operands::read(text::after_word(rest));
-    let x = o.x;
-    if o.count != 4 {
-        return Item::Bad;
-    }
-    let pair = counts(line);
-    let Pair::Of(verbs, points) = pair else {
-        return Item::Bad;
-    };
-    Item::Record(Builder {
-        verbs,
-        points,
-        start: Point { x: x[0], y: x[1] },
-        pen: Point { x: x[2], y: x[3] },
+    let (a, b) = counts(line)?;
+    Some(match name {
+        b"buffers" => Item::Buffers(a, b),
+        b"raw" => Item::Raw(a, b),
+        _ => Item::At(Cursor { verb: a, point: b }),
     })
 }
 
+#[tactic(auto, unfolding(crate::specs::Items::of_record, crate::specs::Items::from_record))]
+fn of_record(line: &[u8]) -> Option<Item>
+    ensures { result ≡ of_record line.now }
+{
+    let operands = operands::read(after_words(line))?;
+    let (verbs, points) = counts(line)?;
+    let x = operands.as_slice();
+    if x.len() != 4 {
+        return None;
+    }
+    Some(Item::Record(Builder {
+        verbs,
+        points,
+        start: operands::point(x, 0),
+        pen: operands::point(x, 2),
+    }))
+}
+
 // A name alone.
-fn of_name(name: &[u8]) -> Item
+#[tactic(auto, unfolding(crate::specs::Items::of_name))]
+fn of_name(name: &[u8]) -> Option<Item>
     ensures { result ≡ of_name name.now }
 {
-    if named(name, b"close") {
-        return Item::Build(BuildingCall::Close);
+    match name {
+        b"close" => Some(Item::Build(BuildingCall::Close)),
+        b"box" => Some(Item::Box),
+        _ => None,
     }
-    if named(name, b"box") {
-        return Item::Box;
-    }
-    Item::Bad
 }
 
 // A name with a point, with up to three, and with a shape.
-fn of_two(name: &[u8], p: Point) -> Item
+#[tactic(auto, unfolding(crate::specs::Items::of_two))]
+fn of_two(name: &[u8], p: Point) -> Option<Item>
     ensures { result ≡ of_two name.now p }
 {
-    if named(name, b"move") {
-        return Item::Build(BuildingCall::MoveTo(p));
+    match name {
+        b"move" => Some(Item::Build(BuildingCall::MoveTo(p))),
+        b"line" => Some(Item::Build(BuildingCall::LineTo(p))),
+        _ => None,
     }
-    if named(name, b"line") {
-        return Item::Build(BuildingCall::LineTo(p));
-    }
-    Item::Bad
 }
 
-fn of_four(name: &[u8], o: Operands) -> Item
-    ensures { result ≡ of_four name.now o }
+#[tactic(auto, unfolding(crate::specs::Items::of_four))]
+fn of_four(name: &[u8], x: &[f32]) -> Option<Item>
+    ensures { result ≡ of_four name.now x.now }
 {
-    let n = o.count;
-    let x = o.x;
-    let p = Point { x: x[0], y: x[1] };
-    let q = Point { x: x[2], y: x[3] };
-    if n == 4 {
-        if named(name, b"quad") {
-            return Item::Build(BuildingCall::QuadTo(p, q));
+    let p = operands::point(x, 0);
+    let q = operands::point(x, 2);
+    match x.len() {
+        4 if name == b"quad".as_slice() => Some(Item::Build(BuildingCall::QuadTo(p, q))),
+        5 if name == b"conic".as_slice() => {
+            Some(Item::Build(BuildingCall::ConicTo(p, q, operands::at(x, 4))))
         }
-        return Item::Bad;
+        4 | 5 => None,
+        _ if name == b"cubic".as_slice() => Some(Item::Build(BuildingCall::CubicTo(
+            p,
+            q,
+            operands::point(x, 4),
+        ))),
+        _ => None,
     }
-    if n == 5 {
-        if named(name, b"conic") {
-            return Item::Build(BuildingCall::ConicTo(p, q, x[4]));
-        }
-        return Item::Bad;
-    }
-    if named(name, b"cubic") {
-        return Item::Build(BuildingCall::CubicTo(p, q, Point { x: x[4], y: x[5] }));
-    }
-    Item::Bad
 }
 
-fn of_shape(name: &[u8], o: Operands) -> Item
-    ensures { result ≡ of_shape name.now o }
+#[tactic(auto, unfolding(crate::specs::Items::of_shape))]
+fn of_shape(name: &[u8], x: &[f32]) -> Option<Item>
+    ensures { result ≡ of_shape name.now x.now }
 {
-    let n = o.count;
-    let x = o.x;
-    if n == 12 {
-        if named(name, b"outline") {
-            return Item::Outline(operands::bounds(x), operands::radii(x));
+    let bounds = operands::bounds(x);
+    let radii = operands::radii(x);
+    match x.len() {
+        12 if name == b"outline".as_slice() => Some(Item::Outline(bounds, radii)),
+        14 if name == b"contains".as_slice() => {
+            Some(Item::Contains(bounds, radii, operands::point(x, 12)))
         }
-        return Item::Bad;
+        _ => None,
     }
-    if n == 14 {
-        if named(name, b"contains") {
-            let point = Point { x: x[12], y: x[13] };
-            return Item::Contains(operands::bounds(x), operands::radii(x), point);
-        }
-        return Item::Bad;
-    }
-    Item::Bad
 }
 
 // A name with so many floats and no more.
-fn of_floats(name: &[u8], o: Operands) -> Item
-    ensures { result ≡ of_floats name.now o }
+#[tactic(auto, unfolding(crate::specs::Items::of_floats))]
+fn of_floats(name: &[u8], x: &[f32]) -> Option<Item>
+    ensures { result ≡ of_floats name.now x.now }
 {
-    let n = o.count;
-    let x = o.x;
-    if n == 0 {
-        return of_name(name);
+    match x.len() {
+        0 => of_name(name),
+        2 => of_two(name, operands::point(x, 0)),
+        1 | 3 => None,
+        4..=6 => of_four(name, x),
+        _ => of_shape(name, x),
     }
-    if n == 2 {
-        return of_two(name, Point { x: x[0], y: x[1] });
-    }
-    if n < 4 {
-        return Item::Bad;
-    }
-    if n <= 6 {
-        return of_four(name, o);
-    }
-    of_shape(name, o)
 }
 
+#[tactic(auto, unfolding(crate::specs::Items::has_counts))]
 fn has_counts(name: &[u8]) -> bool
     ensures { result ≡ has_counts name.now }
 {
-    if named(name, b"buffers") {
-        return true;
-    }
-    if named(name, b"raw") {
-        return true;
-    }
-    named(name, b"cursor")
+    name == b"buffers".as_slice() || name == b"raw".as_slice() || name == b"cursor".as_slice()
 }
 
-fn of_words(name: &[u8], line: &[u8]) -> Item
+#[tactic(auto, unfolding(crate::specs::Items::from_floats))]
+fn of_operands(name: &[u8], line: &[u8]) -> Option<Item>
+    ensures { result ≡ from_floats name.now (operands_of line.now) }
+{
+    let operands = operands::read(line)?;
+    of_floats(name, operands.as_slice())
+}
+
+// The item, where the line has a word for it.
+fn in_words(line: &[u8], item: Item) -> Option<Item>
+    ensures { result ≡ cond (has_words line.now) (Some item) None }
+{
+    if has_words(line) { Some(item) } else { None }
+}
+
+#[tactic(auto, unfolding(crate::specs::Items::of_words))]
+fn of_words(name: &[u8], line: &[u8]) -> Option<Item>
     ensures { result ≡ of_words name.now line.now }
 {
     if has_counts(name) {
         return of_counts(name, line);
     }
-    if named(name, b"record") {
+    if name == b"record".as_slice() {
         return of_record(line);
     }
-    if named(name, b"verbs") {
-        if has_words(line) {
-            return Item::Verbs;
-        }
-        return Item::Bad;
+    if name == b"verbs".as_slice() {
+        return in_words(line, Item::Verbs);
     }
-    if named(name, b"floats") {
-        if has_words(line) {
-            return Item::Floats;
-        }
-        return Item::Bad;
+    if name == b"floats".as_slice() {
+        return in_words(line, Item::Floats);
     }
-    of_floats(name, operands::read(line))
+    of_operands(name, line)
 }
 
-pub fn item_of(line: &[u8]) -> Item
+#[tactic(auto, unfolding(crate::specs::Items::item_of, crate::specs::Items::asked, crate::specs::Items::has_words))]
+pub fn item_of(line: &[u8]) -> Result<Option<Item>, BadLine>
     ensures { result ≡ item_of line.now }
 {
-    if has_words(line) {
-        let name = text::first_word(line);
-        return of_words(name, text::after_word(line));
+    let Some((name, rest)) = text::split_word(line) else {
+        return Ok(None);
+    };
+    match of_words(name, rest) {
+        Some(item) => Ok(Some(item)),
+        None => Err(BadLine),
     }
-    Item::Nothing
 }

@@ -39,7 +39,7 @@ pub fn read(line: &[u8]) -> Option<Operands>
 }
 
 // The i-th, or a NaN where there are not so many.
-fn at(x: &[f32], i: usize) -> f32
+pub fn at(x: &[f32], i: usize) -> f32
     ensures { result ≡ get_or x.now i nan }
 {
     x.get(i).copied().unwrap_or(f32::NAN)

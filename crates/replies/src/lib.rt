@@ -1,15 +1,15 @@
-// The lines that the program replay writes (docs/REPLAY.md), as text in a lent buffer. A writer takes the index
-// to write at and gives the index past its text.
+// The lines that the program replay writes (docs/REPLAY.md), but for the ends of the lines.
 
 #![tactic(auto)]
 
-ghost use Rattle.std.specs.Prelude.{◌≡◌};
-ghost use Rattle.text.specs.Written.{decimal_text, hexadecimal_text, single_text};
-ghost use Rattle.replies.specs.Replies.{written, ◌▸◌, put_counts, put_point, put_segment, put_next, put_record, put_done, put_numbered, put_box, put_worded, put_reply, put_line};
+ghost use Rattle.std.specs.Prelude.{Some};
+ghost use Rattle.replies.specs.Replies.{counts_text, point_text, segment_text, reply_text};
 
 use geometry::Point;
 use reader::{Cursor, Rect, Segment};
+use std::fmt;
 use stream::Builder;
+use text::{Hexadecimal, Spelled};
 
 #[derive(Drop)]
 pub enum Reply {
@@ -32,147 +32,77 @@ pub enum Reply {
     BadLine(u64),
 }
 
-fn word(out: &mut [u8], at: usize, text: &[u8]) -> usize
-    ensures { written result out.new ≡ written at out.old ▸ text.now }
-{
-    text::put(out, at, text)
-}
+#[derive(Clone, Copy)]
+struct Counts(usize, usize);
 
-fn decimal(out: &mut [u8], at: usize, n: u64) -> usize
-    ensures { written result out.new ≡ written at out.old ▸ decimal_text n }
-{
-    text::put_decimal(out, at, n)
-}
+impl fmt::Display for Counts {
+    ghost output = { λ c. Some (counts_text c.0 c.1) };
 
-fn hexadecimal(out: &mut [u8], at: usize, n: u64) -> usize
-    ensures { written result out.new ≡ written at out.old ▸ hexadecimal_text n }
-{
-    text::put_hexadecimal(out, at, n)
-}
-
-fn single(out: &mut [u8], at: usize, x: f32) -> usize
-    ensures { written result out.new ≡ written at out.old ▸ single_text x }
-{
-    text::put_single(out, at, x)
-}
-
-fn counts(out: &mut [u8], at: usize, a: usize, b: usize) -> usize
-    ensures { written result out.new ≡ put_counts (written at out.old) a b }
-{
-    let n = word(out, at, b" ");
-    let n = decimal(out, n, a as u64);
-    let n = word(out, n, b" ");
-    decimal(out, n, b as u64)
-}
-
-fn point(out: &mut [u8], at: usize, p: Point) -> usize
-    ensures { written result out.new ≡ put_point (written at out.old) p }
-{
-    let n = word(out, at, b" ");
-    let n = single(out, n, p.x);
-    let n = word(out, n, b" ");
-    single(out, n, p.y)
-}
-
-fn segment(out: &mut [u8], at: usize, s: Segment) -> usize
-    ensures { written result out.new ≡ put_segment (written at out.old) s }
-{
-    match s {
-        Segment::Move(p) => {
-            let n = word(out, at, b"move");
-            point(out, n, p)
-        }
-        Segment::Line(p) => {
-            let n = word(out, at, b"line");
-            point(out, n, p)
-        }
-        Segment::Quad(p, q) => {
-            let n = word(out, at, b"quad");
-            let n = point(out, n, p);
-            point(out, n, q)
-        }
-        Segment::Cubic(p, q, r) => {
-            let n = word(out, at, b"cubic");
-            let n = point(out, n, p);
-            let n = point(out, n, q);
-            point(out, n, r)
-        }
-        Segment::Close => word(out, at, b"close"),
-        Segment::End => word(out, at, b"end"),
+    #[tactic(auto, unfolding(crate::specs::Replies::counts_text))]
+    fn fmt<W: fmt::Write>(&self, f: &mut fmt::Formatter<W>) -> fmt::Result {
+        let Counts(verbs, points) = *self;
+        write!(f, " {verbs} {points}")
     }
 }
 
-fn next(out: &mut [u8], at: usize, s: Segment, c: Cursor) -> usize
-    ensures { written result out.new ≡ put_next (written at out.old) s c }
-{
-    let n = segment(out, at, s);
-    let n = word(out, n, b" next");
-    counts(out, n, c.verb, c.point)
-}
+#[derive(Clone, Copy)]
+struct Place(Point);
 
-fn whole_record(out: &mut [u8], at: usize, b: Builder) -> usize
-    ensures { written result out.new ≡ put_record (written at out.old) b }
-{
-    let n = word(out, at, b"record");
-    let n = counts(out, n, b.verbs, b.points);
-    let n = point(out, n, b.start);
-    point(out, n, b.pen)
-}
+impl fmt::Display for Place {
+    ghost output = { λ p. Some (point_text p.0) };
 
-fn done(out: &mut [u8], at: usize, b: Builder) -> usize
-    ensures { written result out.new ≡ put_done (written at out.old) b }
-{
-    let n = word(out, at, b"ok");
-    counts(out, n, b.verbs, b.points)
-}
-
-fn numbered(out: &mut [u8], at: usize, name: &[u8], k: u64) -> usize
-    ensures { written result out.new ≡ put_numbered (written at out.old) name.now k }
-{
-    let n = word(out, at, name);
-    decimal(out, n, k)
-}
-
-fn corners(out: &mut [u8], at: usize, b: Rect) -> usize
-    ensures { written result out.new ≡ put_box (written at out.old) b }
-{
-    let n = word(out, at, b"box");
-    let n = point(out, n, b.min);
-    point(out, n, b.max)
-}
-
-fn worded(out: &mut [u8], at: usize, b: Builder, joints: u64) -> usize
-    ensures { written result out.new ≡ put_worded (written at out.old) b joints }
-{
-    let n = done(out, at, b);
-    let n = word(out, n, b" word ");
-    hexadecimal(out, n, joints)
-}
-
-fn reply_text(out: &mut [u8], reply: Reply) -> usize
-    ensures { written result out.new ≡ put_reply (written 0 out.old) reply }
-{
-    match reply {
-        Reply::Element(s) => segment(out, 0, s),
-        Reply::Read(s, c) => next(out, 0, s, c),
-        Reply::Record(b) => whole_record(out, 0, b),
-        Reply::End => word(out, 0, b"end"),
-        Reply::Empty => word(out, 0, b"empty"),
-        Reply::Box(r) => corners(out, 0, r),
-        Reply::Done(b) => done(out, 0, b),
-        Reply::Worded(b, joints) => worded(out, 0, b, joints),
-        Reply::Yes => word(out, 0, b"1"),
-        Reply::No => word(out, 0, b"0"),
-        Reply::Refused(n) => numbered(out, 0, b"refused ", n),
-        Reply::Malformed(v) => numbered(out, 0, b"refused 6 at ", v),
-        Reply::BadLine(n) => numbered(out, 0, b"bad line ", n),
+    #[tactic(auto, unfolding(crate::specs::Replies::point_text))]
+    fn fmt<W: fmt::Write>(&self, f: &mut fmt::Formatter<W>) -> fmt::Result {
+        let x = Spelled(self.0.x);
+        let y = Spelled(self.0.y);
+        write!(f, " {x} {y}")
     }
 }
 
-// The reply and the end of the line, from the start of out.
-pub fn put(out: &mut [u8], reply: Reply) -> usize
-    ensures { written result out.new ≡ put_line (written 0 out.old) reply }
-{
-    let n = reply_text(out, reply);
-    word(out, n, b"\n")
+#[derive(Clone, Copy)]
+struct Part(Segment);
+
+impl fmt::Display for Part {
+    ghost output = { λ s. Some (segment_text s.0) };
+
+    #[tactic(auto, unfolding(crate::specs::Replies::segment_text))]
+    fn fmt<W: fmt::Write>(&self, f: &mut fmt::Formatter<W>) -> fmt::Result {
+        match self.0 {
+            Segment::Move(p) => write!(f, "move{}", Place(p)),
+            Segment::Line(p) => write!(f, "line{}", Place(p)),
+            Segment::Quad(p, q) => write!(f, "quad{}{}", Place(p), Place(q)),
+            Segment::Cubic(p, q, r) => write!(f, "cubic{}{}{}", Place(p), Place(q), Place(r)),
+            Segment::Close => f.write_str("close"),
+            Segment::End => f.write_str("end"),
+        }
+    }
+}
+
+impl fmt::Display for Reply {
+    ghost output = { λ r. Some (reply_text r) };
+
+    #[tactic(auto, unfolding(crate::specs::Replies::reply_text))]
+    fn fmt<W: fmt::Write>(&self, f: &mut fmt::Formatter<W>) -> fmt::Result {
+        match self {
+            Reply::Element(s) => write!(f, "{}", Part(*s)),
+            Reply::Read(s, c) => write!(f, "{} next{}", Part(*s), Counts(c.verb, c.point)),
+            Reply::Record(b) => {
+                let counts = Counts(b.verbs, b.points);
+                write!(f, "record{}{}{}", counts, Place(b.start), Place(b.pen))
+            }
+            Reply::End => f.write_str("end"),
+            Reply::Empty => f.write_str("empty"),
+            Reply::Box(r) => write!(f, "box{}{}", Place(r.min), Place(r.max)),
+            Reply::Done(b) => write!(f, "ok{}", Counts(b.verbs, b.points)),
+            Reply::Worded(b, joints) => {
+                let counts = Counts(b.verbs, b.points);
+                write!(f, "ok{} word {}", counts, Hexadecimal(*joints))
+            }
+            Reply::Yes => f.write_str("1"),
+            Reply::No => f.write_str("0"),
+            Reply::Refused(n) => write!(f, "refused {}", *n),
+            Reply::Malformed(v) => write!(f, "refused 6 at {}", *v),
+            Reply::BadLine(n) => write!(f, "bad line {}", *n),
+        }
+    }
 }

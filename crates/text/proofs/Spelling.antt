@@ -1,7 +1,7 @@
 -- Reading a number digit by digit, and the size of what n hexadecimal digits spell. Assumes nothing.
 use Rattle.std.proofs.Common.{◌≡◌, ℕ, suc, ◌+◌, ◌*◌, ◌^◌, ◌≤◌, ◌<◌, Bool, true, false, cond, List, [], ◌∷◌, length, drop, get_or, refl, subst, arith, add-one, Option, Some, None}
 use native.Mathlib.Nat.{pow-zero, pow-succ', mul-one, mul_assoc, suc-mul, mul-le-mul_right, lt_of_lt_of_le}
-use borrow.Author.Tests.{ltb-true}
+use borrow.Author.Tests.{ltb-true, eq-eqb}
 use lib.Dec.{ltb, eqb}
 use lib.ListN.{drop_of_length-le}
 use lib.Seq.{drop-cons}
@@ -62,3 +62,7 @@ digits-below s k v h e = go (eqb (length s) 0) e
         let g : v < 1 * 16 ^ length s = spelt-below 16 0 s v f in
         let P : ℕ → Type 0 = λ n. v < 16 ^ n in
         subst P h (omega (arith, g))
+
+pub no_number : (base : ℕ) (s : List ℕ) → length s ≡ 0 → number_of base s ≡ None
+unfolding number_of
+no_number base s h = rw (eq-eqb _ _ h)

@@ -11,4 +11,4 @@ mod words;
 pub use floats::{FloatWord, Hexadecimal, Spelled, read_float};
 pub use numbers::read_number;
 pub use output::{put, put_decimal};
-pub use words::{Class, leading, split_word};
+pub use words::{Class, after_word, leading, split_word};

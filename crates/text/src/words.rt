@@ -61,3 +61,12 @@ pub fn split_word(s: &[u8]) -> Option<(&[u8], &[u8])>
     }
     Some(t.split_at(n))
 }
+
+// What follows the first word.
+#[tactic(auto, unfolding(crate::specs::Words::after_word))]
+pub fn after_word(s: &[u8]) -> &[u8]
+    ensures { result.now ≡ after_word s.now }
+{
+    let t = after_blanks(s);
+    &t[leading(t, Class::Word)..]
+}

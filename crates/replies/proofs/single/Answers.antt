@@ -1,6 +1,0 @@
--- `replies::single` meets its contract. Assumes nothing.
-use Rattle.replies.proofs.Writing.{wrote}
-use Rattle.replies.proofs.single.Goals as goal
-
-pub returns : goal.returns
-returns c = wrote c.put_single.ensures

@@ -1,6 +1,0 @@
--- `replies::word` meets its contract. Assumes nothing.
-use Rattle.replies.proofs.Writing.{wrote}
-use Rattle.replies.proofs.word.Goals as goal
-
-pub returns : goal.returns
-returns c = wrote c.put.ensures
