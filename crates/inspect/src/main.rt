@@ -3,12 +3,11 @@
 
 #![tactic(auto)]
 
-use input::Input;
 use std::io;
 
 fn main(rt: HostRuntime) -> io::Result<()> {
     let mut file = [0u8; 65537];
-    let Input::Whole(n) = input::read_all(&mut rt.stdin(), &mut file) else {
+    let Ok(n) = input::read_all(&mut rt.stdin(), &mut file) else {
         return eprintln!(rt; "inspect: standard input cannot be read");
     };
     let mut out = [0u8; 393288];

@@ -9,43 +9,28 @@ use std::io;
 use std::io::Read;
 use text::{Class, Number};
 
-// How many bytes the file has so far, or that the line is bad.
-#[derive(Drop)]
-enum Held {
-    Bytes(usize),
-    Bad,
-}
-
-// Some bytes behind others, which has to have room.
-fn put_bytes(line: &mut [u8], at: usize, bytes: &[u8]) -> Held {
+// Some bytes behind others; none where there is no room.
+fn put_bytes(line: &mut [u8], at: usize, bytes: &[u8]) -> Option<usize> {
     let next = text::put(line, at, bytes);
-    if next == at {
-        return Held::Bad;
-    }
-    Held::Bytes(next)
+    if next == at { None } else { Some(next) }
 }
 
-// A field's bytes behind those of the line's fields before, the lowest first.
-fn put_field(line: &mut [u8], at: usize, word: &[u8]) -> Held {
+// A field's bytes behind those of the line's fields before, the lowest first; none for a bad field.
+fn put_field(line: &mut [u8], at: usize, word: &[u8]) -> Option<usize> {
     let Number::Of(n) = text::read_hexadecimal(word) else {
-        return Held::Bad;
+        return None;
     };
-    let bytes = [
-        (n % 256) as u8,
-        (n / 256 % 256) as u8,
-        (n / 65536 % 256) as u8,
-        (n / 16777216 % 256) as u8,
-    ];
+    let bytes = n.to_le_bytes();
     match word.len() {
         2 => put_bytes(line, at, &bytes[..1]),
         4 => put_bytes(line, at, &bytes[..2]),
-        8 => put_bytes(line, at, &bytes),
-        _ => Held::Bad,
+        8 => put_bytes(line, at, &bytes[..4]),
+        _ => None,
     }
 }
 
-// The bytes of all fields of a line.
-fn put_fields(line: &mut [u8], words: &[u8]) -> Held {
+// The bytes of all fields of a line; none where one is bad.
+fn put_fields(line: &mut [u8], words: &[u8]) -> Option<usize> {
     let mut n = 0;
     let mut at = 0;
     while at < words.len() {
@@ -54,24 +39,19 @@ fn put_fields(line: &mut [u8], words: &[u8]) -> Held {
         let tail = &rest[skip..];
         let len = text::leading(tail, Class::Word);
         if len == 0 {
-            return Held::Bytes(n);
+            return Some(n);
         }
-        let Held::Bytes(next) = put_field(line, n, &tail[0..len]) else {
-            return Held::Bad;
-        };
-        n = next;
+        n = put_field(line, n, &tail[..len])?;
         at = at + skip + len;
     }
-    Held::Bytes(n)
+    Some(n)
 }
 
 // So many copies of some bytes behind the file's; as many as there is room for.
 fn put_copies(file: &mut [u8], held: usize, part: &[u8], times: u64) -> usize {
     let mut at = held;
-    let mut i = 0;
-    while i < times {
+    for _ in 0..times {
         at = text::put(file, at, part);
-        i += 1;
     }
     at
 }
@@ -82,46 +62,45 @@ fn write_report(rt: &impl Print, file: &[u8]) -> io::Result<()> {
     rt.write_all(&out[..n])
 }
 
-// A line that adds bytes to the file: how often, then the fields.
-fn add(file: &mut [u8], held: usize, line: &[u8]) -> Held {
+// A line that adds bytes to the file, how often, then the fields: how many bytes it holds then, none for a bad line.
+fn add(file: &mut [u8], held: usize, line: &[u8]) -> Option<usize> {
     let Number::Of(times) = text::read_decimal(text::first_word(line)) else {
-        return Held::Bad;
+        return None;
     };
     let mut part = [0u8; 512];
-    let Held::Bytes(n) = put_fields(&mut part, text::after_word(line)) else {
-        return Held::Bad;
-    };
+    let n = put_fields(&mut part, text::after_word(line))?;
     if n > part.len() {
-        return Held::Bad;
+        return None;
     }
-    Held::Bytes(put_copies(file, held, &part[0..n], times))
+    Some(put_copies(file, held, &part[..n], times))
 }
 
-fn take_line(rt: &impl Print, file: &mut [u8], held: usize, line: &[u8]) -> io::Result<Held> {
+fn take_line(
+    rt: &impl Print,
+    file: &mut [u8],
+    held: usize,
+    line: &[u8],
+) -> io::Result<Option<usize>> {
     let word = text::first_word(line);
-    if word.len() == 0 {
-        return Ok(Held::Bytes(held));
+    if word.is_empty() {
+        return Ok(Some(held));
     }
     if check::same(word, b"report") {
         if held <= file.len() {
-            write_report(rt, &file[0..held])?;
+            write_report(rt, &file[..held])?;
         }
-        return Ok(Held::Bytes(0));
+        return Ok(Some(0));
     }
     Ok(add(file, held, line))
 }
 
 fn take_lines(rt: &impl Print, file: &mut [u8], lines: &[u8]) -> io::Result<()> {
     let mut held = 0;
-    let mut at = 0;
-    while at < lines.len() {
-        let rest = &lines[at..];
-        let n = text::leading(rest, Class::Line);
-        let Held::Bytes(next) = take_line(rt, file, held, &rest[0..n])? else {
+    for line in lines.split(|b| *b == b'\n') {
+        let Some(next) = take_line(rt, file, held, line)? else {
             return rt.write_all(b"bad\n");
         };
         held = next;
-        at = at + n + 1;
     }
     Ok(())
 }
