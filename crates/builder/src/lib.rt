@@ -8,8 +8,9 @@ ghost use Rattle.stream.specs.Stream.{state, is_empty, push_all};
 ghost use Rattle.lowering.specs.Entries.{elements_of};
 ghost use Rattle.calls.specs.Calls.{opening, outcome_of, conic_outcome_of, step};
 
-use calls::{Built, Call, ConicBuilt};
+use calls::{BuildError, Call};
 use geometry::Point;
+use lowering::Written;
 use stream::{Builder, Need};
 
 // The opening move of a builder that is empty.
@@ -23,44 +24,31 @@ fn ensure_started(b: Builder, verbs: &mut [u8], points: &mut [f32]) -> Builder
     b
 }
 
-pub fn move_to(b: Builder, verbs: &mut [u8], points: &mut [f32], p: Point) -> Built
+pub fn move_to(b: Builder, verbs: &mut [u8], points: &mut [f32], p: Point) -> Result<Builder, BuildError>
     ensures { outcome_of result verbs.new points.new ≡ step (state b verbs.old points.old) (Call.MoveTo p) }
 {
-    let a = calls::admit(
-        b,
-        verbs.len(),
-        points.len(),
-        Need {
-            verbs: 1,
-            points: 1,
-        },
-    );
-    let Built::Done(_) = a else {
-        return a;
+    let need = Need {
+        verbs: 1,
+        points: 1,
     };
-    Built::Done(stream::push_move(b, verbs, points, p))
+    calls::admit(b, verbs.len(), points.len(), need)?;
+    Ok(stream::push_move(b, verbs, points, p))
 }
 
-pub fn line_to(b: Builder, verbs: &mut [u8], points: &mut [f32], p: Point) -> Built
+pub fn line_to(b: Builder, verbs: &mut [u8], points: &mut [f32], p: Point) -> Result<Builder, BuildError>
     ensures { outcome_of result verbs.new points.new ≡ step (state b verbs.old points.old) (Call.LineTo p) }
 {
-    let a = calls::admit(b, verbs.len(), points.len(), calls::opened_need(b, 1, 1));
-    let Built::Done(_) = a else {
-        return a;
-    };
+    calls::admit(b, verbs.len(), points.len(), calls::opened_need(b, 1, 1))?;
     let o = ensure_started(b, verbs, points);
-    Built::Done(stream::push_line(o, verbs, points, p))
+    Ok(stream::push_line(o, verbs, points, p))
 }
 
-pub fn quad_to(b: Builder, verbs: &mut [u8], points: &mut [f32], ctrl: Point, p: Point) -> Built
+pub fn quad_to(b: Builder, verbs: &mut [u8], points: &mut [f32], ctrl: Point, p: Point) -> Result<Builder, BuildError>
     ensures { outcome_of result verbs.new points.new ≡ step (state b verbs.old points.old) (Call.QuadTo ctrl p) }
 {
-    let a = calls::admit(b, verbs.len(), points.len(), calls::opened_need(b, 1, 2));
-    let Built::Done(_) = a else {
-        return a;
-    };
+    calls::admit(b, verbs.len(), points.len(), calls::opened_need(b, 1, 2))?;
     let o = ensure_started(b, verbs, points);
-    Built::Done(stream::push_quad(o, verbs, points, ctrl, p))
+    Ok(stream::push_quad(o, verbs, points, ctrl, p))
 }
 
 pub fn cubic_to(
@@ -70,15 +58,12 @@ pub fn cubic_to(
     c0: Point,
     c1: Point,
     p: Point,
-) -> Built
+) -> Result<Builder, BuildError>
     ensures { outcome_of result verbs.new points.new ≡ step (state b verbs.old points.old) (Call.CubicTo c0 c1 p) }
 {
-    let a = calls::admit(b, verbs.len(), points.len(), calls::opened_need(b, 1, 3));
-    let Built::Done(_) = a else {
-        return a;
-    };
+    calls::admit(b, verbs.len(), points.len(), calls::opened_need(b, 1, 3))?;
     let o = ensure_started(b, verbs, points);
-    Built::Done(stream::push_cubic(o, verbs, points, c0, c1, p))
+    Ok(stream::push_cubic(o, verbs, points, c0, c1, p))
 }
 
 pub fn conic_to(
@@ -88,30 +73,22 @@ pub fn conic_to(
     ctrl: Point,
     to: Point,
     weight: f32,
-) -> ConicBuilt
+) -> Result<Written, BuildError>
     ensures { conic_outcome_of result verbs.new points.new ≡ step (state b verbs.old points.old) (Call.ConicTo ctrl to weight) }
 {
     let l = conic::lower(calls::conic_from(b, ctrl, to, weight));
-    let a = calls::admit_lowered(b, verbs.len(), points.len(), l);
-    let Built::Done(_) = a else {
-        return calls::with_word(a, 0);
-    };
+    calls::admit_lowered(b, verbs.len(), points.len(), l)?;
     let o = ensure_started(b, verbs, points);
-    let w = lowering::push_lowered(o, verbs, points, l);
-    let wb = w.builder;
-    ConicBuilt::Done(wb, w.word)
+    Ok(lowering::push_lowered(o, verbs, points, l))
 }
 
 // On an empty builder a close is accepted, and changes nothing.
-pub fn close(b: Builder, verbs: &mut [u8], points: &mut [f32]) -> Built
+pub fn close(b: Builder, verbs: &mut [u8], points: &mut [f32]) -> Result<Builder, BuildError>
     ensures { outcome_of result verbs.new points.new ≡ step (state b verbs.old points.old) Call.Close }
 {
-    let a = calls::admit(b, verbs.len(), points.len(), calls::close_need(b));
-    let Built::Done(_) = a else {
-        return a;
-    };
+    calls::admit(b, verbs.len(), points.len(), calls::close_need(b))?;
     if b.verbs == 0 {
-        return Built::Done(b);
+        return Ok(b);
     }
-    Built::Done(stream::push_close(b, verbs, points))
+    Ok(stream::push_close(b, verbs, points))
 }

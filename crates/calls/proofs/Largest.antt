@@ -11,14 +11,15 @@ use Rattle.conic.specs.declared.Lowered.{Lowered}
 use Rattle.conic.specs.declared.Lowered.TheVariants.{Line, Curve}
 use Rattle.conic.specs.Halving.{pieces_of}
 use Rattle.conic.proofs.Whole.{halve-few}
+use Rattle.std.specs.Prelude.{⊤, MatchResult}
+use Rattle.std.proofs.Common.{Result, Ok, Err}
 use Rattle.stream.specs.declared.Builder.{Builder}
 use Rattle.stream.specs.declared.Need.{Need}
 use Rattle.stream.specs.Stream.{has_room, need_of}
 use Rattle.stream.proofs.Tests.{and_left, and_right}
 use Rattle.lowering.specs.Entries.{elements_of, lowered_of}
 use Rattle.lowering.proofs.Entries.{lowered_line, lowered_curve}
-use Rattle.calls.specs.declared.Built.{Built}
-use Rattle.calls.specs.declared.Built.TheVariants.{Done}
+use Rattle.calls.specs.declared.BuildError.{BuildError}
 use Rattle.calls.specs.Calls.{opening, opened_need, admit_of}
 use Rattle.calls.proofs.Opening.{opened-need}
 use Rattle.calls.proofs.Admission.{admitted}
@@ -54,9 +55,14 @@ room_covered b vn fn n m c e =
     rw (le-leb (b.verbs + n.verbs) vn nv, le-leb (b.points + n.points) (fn / 2) np)
 
 -- what is admitted with a need is admitted with any that it covers
-pub admitted_too : (b x : Builder) (vn fn : ℕ) (n m : Need) (r : Built) → Covered n m → r ≡ admit_of b vn fn m → r ≡ Done x → r ≡ admit_of b vn fn n
+pub admitted_too : (b : Builder) (x : ⊤) (vn fn : ℕ) (n m : Need) (r : Result ⊤ BuildError) → Covered n m → r ≡ admit_of b vn fn m → r ≡ Ok x → r ≡ admit_of b vn fn n
 unfolding admit_of
 admitted_too b x vn fn n m r c e d =
     let a = admitted b x vn fn m e d in
     let k = room_covered b vn fn n m c a.room in
     e ∙ rw (a.good, a.room, k)
+
+-- a need is asked for where a larger one is not admitted
+pub admitted_or : (b : Builder) (vn fn : ℕ) (n m : Need) (a r : Result ⊤ BuildError) (Q : BuildError → Type 0) → Covered n m → a ≡ admit_of b vn fn m → MatchResult a (λ x. r ≡ Ok x) Q → ((e : BuildError) → Q e → r ≡ admit_of b vn fn n) → r ≡ admit_of b vn fn n
+admitted_or b vn fn n m (Ok x) r Q c f h k = h ∙ admitted_too b x vn fn n m _ c f refl
+admitted_or b vn fn n m (Err e) r Q c f h k = k e h

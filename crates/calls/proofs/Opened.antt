@@ -10,6 +10,8 @@ use Rattle.conic.specs.declared.Conic.{Conic}
 use Rattle.conic.specs.declared.Lowered.{Lowered}
 use Rattle.conic.specs.Conic.{lower_of}
 use Rattle.conic.specs.Halving.{word_of}
+use Rattle.std.specs.Prelude.{⊤}
+use Rattle.std.proofs.Common.{Result, Ok, Err}
 use Rattle.stream.specs.declared.Builder.{Builder}
 use Rattle.stream.specs.declared.Element.{Element}
 use Rattle.stream.specs.declared.Need.{Need}
@@ -18,11 +20,9 @@ use Rattle.stream.proofs.Tests.{room-is}
 use Rattle.stream.proofs.Push.{push_all-one, push_all_append, push_all-verbs, push-all_points, sizes_append, sizes-one}
 use Rattle.lowering.specs.Entries.{Entry, plain, elements_of, pieces_in, joint_word, lowered_of}
 use Rattle.lowering.proofs.Entries.{elements_append}
-use Rattle.calls.specs.declared.Built.{Built}
-use Rattle.calls.specs.declared.Built.TheVariants.{Done, BadRecord, NoRoom}
-use Rattle.calls.specs.declared.ConicBuilt.{ConicBuilt}
+use Rattle.calls.specs.declared.BuildError.{BuildError}
 use Rattle.calls.specs.declared.Call.TheVariants as call
-use Rattle.calls.specs.Calls.{opening, opened_need, conic_from, entries_of, outcome, attempt, step, admit_of, with_word, outcome_of, conic_outcome_of}
+use Rattle.calls.specs.Calls.{opening, opened_need, conic_from, entries_of, outcome, attempt, step, admit_of, refusal_of}
 use Rattle.calls.proofs.Opening.{word-opened, opened-need, opening_count, opening-size}
 use Rattle.calls.proofs.Admission.{Admitted, admitted_for, refused-is, done-is}
 
@@ -51,10 +51,10 @@ module _ (s : State) (es : List Entry) where
   abbrev AdmittedHere : Type 0
   AdmittedHere = Admitted s.builder (length s.verbs) (length s.floats) (need_of (elements_of opened))
 
-  pub opened-refused : (n : Need) (r : Built) → n ≡ need_of (elements_of opened) → r ≡ admit_of s.builder (length s.verbs) (length s.floats) n → ((b : Builder) → r ≡ Done b → ⊥) → outcome_of r s.verbs s.floats ≡ attempt s opened
-  opened-refused n r e a h = refused-is s opened r h (a ∙ ap (admit_of s.builder (length s.verbs) (length s.floats)) e)
+  pub opened-refused : (n : Need) (r : BuildError) → n ≡ need_of (elements_of opened) → Err r ≡ admit_of s.builder (length s.verbs) (length s.floats) n → refusal_of r s.verbs s.floats ≡ attempt s opened
+  opened-refused n r e a = refused-is s opened r (a ∙ ap (admit_of s.builder (length s.verbs) (length s.floats)) e)
 
-  pub opened-admitted : (n : Need) (r : Built) (x : Builder) → n ≡ need_of (elements_of opened) → r ≡ admit_of s.builder (length s.verbs) (length s.floats) n → r ≡ Done x → AdmittedHere
+  pub opened-admitted : (n : Need) (r : Result ⊤ BuildError) (x : ⊤) → n ≡ need_of (elements_of opened) → r ≡ admit_of s.builder (length s.verbs) (length s.floats) n → r ≡ Ok x → AdmittedHere
   opened-admitted n r x e a d = admitted_for s.builder x (length s.verbs) (length s.floats) n opened opened e refl a d
 
   -- room for the opening move, and for es behind it
@@ -77,21 +77,15 @@ pub one-done : (s : State) (k : Element) (t u : State) → AdmittedHere s (plain
 unfolding elements_of pieces_in word_of
 one-done s k t u h et eu = opened-done s (plain k ∷ []) t u 0 h et (eu ∙ sym (push_all-one t k)) refl
 
-pub one-admitted : (s : State) (k : Element) (n : Need) (r : Built) (x : Builder) → n ≡ opened_need (is_empty s.builder) 1 (size_of k) → r ≡ admit_of s.builder (length s.verbs) (length s.floats) n → r ≡ Done x → AdmittedHere s (plain k ∷ [])
+pub one-admitted : (s : State) (k : Element) (n : Need) (r : Result ⊤ BuildError) (x : ⊤) → n ≡ opened_need (is_empty s.builder) 1 (size_of k) → r ≡ admit_of s.builder (length s.verbs) (length s.floats) n → r ≡ Ok x → AdmittedHere s (plain k ∷ [])
 one-admitted s k n r x e a d = opened-admitted s (plain k ∷ []) n r x (e ∙ one-need s.builder k) a d
 
-pub one-room : (s : State) (k : Element) (n : Need) (r : Built) (x : Builder) → n ≡ opened_need (is_empty s.builder) 1 (size_of k) → r ≡ admit_of s.builder (length s.verbs) (length s.floats) n → r ≡ Done x
+pub one-room : (s : State) (k : Element) (n : Need) (r : Result ⊤ BuildError) (x : ⊤) → n ≡ opened_need (is_empty s.builder) 1 (size_of k) → r ≡ admit_of s.builder (length s.verbs) (length s.floats) n → r ≡ Ok x
     → (s.builder.verbs + (1 - s.builder.verbs) + 1 ≤ length s.verbs) × (2 * (s.builder.points + (1 - s.builder.verbs) + size_of k) ≤ length s.floats)
 unfolding elements_of
 one-room s k n r x e a d = omega (arith, opened-room s (plain k ∷ []) (one-admitted s k n r x e a d), sizes-one k)
 
 -- ---- a conic's call
-
--- an answer with no word
-pub no_word : (r : ConicBuilt) (a : Built) (vs : List ℕ) (fs : List Float) → r ≡ with_word a 0 → conic_outcome_of r vs fs ≡ outcome_of a vs fs
-no_word r (Done b) vs fs e = ap (λ (x : ConicBuilt). conic_outcome_of x vs fs) e
-no_word r (BadRecord b) vs fs e = ap (λ (x : ConicBuilt). conic_outcome_of x vs fs) e
-no_word r (NoRoom b) vs fs e = ap (λ (x : ConicBuilt). conic_outcome_of x vs fs) e
 
 -- what its step attempts, with the lowered conic that the code has
 pub conic-step : (s : State) (ctrl to : Point) (w : Float) (c : Conic) (l : Lowered) → c ≡ conic_from (is_empty s.builder) s.builder.pen ctrl to w → l ≡ lower_of c

@@ -1,6 +1,6 @@
 -- The six building calls: what each adds, when it is refused, and what it leaves in the record and in the buffers. Every public call's contract is an
 -- equation with `step`. Definitions only.
-use Rattle.std.specs.Prelude.{List, [], ◌∷◌, ◌++◌, Bool, true, false, cond, ℕ, ◌+◌, Float}
+use Rattle.std.specs.Prelude.{List, [], ◌∷◌, ◌++◌, Bool, true, false, cond, ℕ, ◌+◌, Float, Result, Ok, Err, ⊤}
 use Rattle.geometry.specs.declared.Point.{Point}
 use Rattle.conic.specs.declared.Conic.{Conic}
 use Rattle.conic.specs.Conic.{lower_of}
@@ -8,13 +8,12 @@ use Rattle.stream.specs.declared.Builder.{Builder}
 use Rattle.stream.specs.declared.Element.TheVariants.{Move, Line, Quad, Cubic, Close}
 use Rattle.stream.specs.declared.Need.{Need}
 use Rattle.stream.specs.Stream.{State, state, origin, is_empty, bad_record, has_room, bad_state, room_for, push_all}
+use Rattle.lowering.specs.declared.Written.{Written}
 use Rattle.lowering.specs.Entries.{Entry, plain, elements_of, joint_word, lowered_of}
 use Rattle.calls.specs.declared.Call.{Call}
 use Rattle.calls.specs.declared.Call.TheVariants as call
-use Rattle.calls.specs.declared.Built.{Built}
-use Rattle.calls.specs.declared.Built.TheVariants as built
-use Rattle.calls.specs.declared.ConicBuilt.{ConicBuilt}
-use Rattle.calls.specs.declared.ConicBuilt.TheVariants as conic_built
+use Rattle.calls.specs.declared.BuildError.{BuildError}
+use Rattle.calls.specs.declared.BuildError.TheVariants.{BadRecord, NoRoom}
 
 -- ---- what a call adds
 
@@ -70,22 +69,27 @@ step_by entries s c = attempt s (entries (is_empty s.builder) s.builder.pen c)
 unfoldable pub step : State → Call → Outcome
 step s c = step_by entries_of s c
 
+-- a refusal: document 01's number, and the record that it returns
+abbrev pub number_of : BuildError → ℕ
+number_of (BadRecord b) = 1
+number_of (NoRoom b) = 5
+
+abbrev pub record_of : BuildError → Builder
+record_of (BadRecord b) = b
+record_of (NoRoom b) = b
+
+abbrev pub refusal_of : BuildError → List ℕ → List Float → Outcome
+refusal_of e vs fs = outcome (number_of e) 0 (state (record_of e) vs fs)
+
 -- the answers of a call that left the buffers at vs and fs
-abbrev pub outcome_of : Built → List ℕ → List Float → Outcome
-outcome_of (built.Done b) vs fs = outcome 0 0 (state b vs fs)
-outcome_of (built.BadRecord b) vs fs = outcome 1 0 (state b vs fs)
-outcome_of (built.NoRoom b) vs fs = outcome 5 0 (state b vs fs)
+abbrev pub outcome_of : Result Builder BuildError → List ℕ → List Float → Outcome
+outcome_of (Ok b) vs fs = outcome 0 0 (state b vs fs)
+outcome_of (Err e) vs fs = refusal_of e vs fs
 
-abbrev pub conic_outcome_of : ConicBuilt → List ℕ → List Float → Outcome
-conic_outcome_of (conic_built.Done b w) vs fs = outcome 0 w (state b vs fs)
-conic_outcome_of (conic_built.BadRecord b) vs fs = outcome 1 0 (state b vs fs)
-conic_outcome_of (conic_built.NoRoom b) vs fs = outcome 5 0 (state b vs fs)
+abbrev pub conic_outcome_of : Result Written BuildError → List ℕ → List Float → Outcome
+conic_outcome_of (Ok w) vs fs = outcome 0 w.word (state w.builder vs fs)
+conic_outcome_of (Err e) vs fs = refusal_of e vs fs
 
--- the refusal of a need in buffers of vn bytes and fn floats, or the same record
-unfoldable pub admit_of : Builder → ℕ → ℕ → Need → Built
-admit_of b vn fn n = cond (bad_record b vn fn) (built.BadRecord b) (cond (has_room b vn fn n) (built.Done b) (built.NoRoom b))
-
-abbrev pub with_word : Built → ℕ → ConicBuilt
-with_word (built.Done b) w = conic_built.Done b w
-with_word (built.BadRecord b) w = conic_built.BadRecord b
-with_word (built.NoRoom b) w = conic_built.NoRoom b
+-- the refusal of a need in buffers of vn bytes and fn floats, if there is one
+unfoldable pub admit_of : Builder → ℕ → ℕ → Need → Result ⊤ BuildError
+admit_of b vn fn n = cond (bad_record b vn fn) (Err (BadRecord b)) (cond (has_room b vn fn n) (Ok tt) (Err (NoRoom b)))

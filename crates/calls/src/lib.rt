@@ -6,10 +6,11 @@
 ghost use Rattle.std.specs.Prelude.{◌≡◌, ◌++◌};
 ghost use Rattle.stream.specs.Stream.{is_empty, need_of};
 ghost use Rattle.lowering.specs.Entries.{elements_of, lowered_of};
-ghost use Rattle.calls.specs.Calls.{conic_from, opened_need, opening, closing, entries_of, admit_of, with_word};
+ghost use Rattle.calls.specs.Calls.{conic_from, opened_need, opening, closing, entries_of, number_of, record_of, admit_of};
 
 use conic::{Conic, Lowered};
 use geometry::Point;
+use std::fmt;
 use stream::{Builder, Need};
 
 // The most quads that a conic is drawn as.
@@ -25,21 +26,43 @@ pub enum Call {
     Close,
 }
 
-#[derive(Drop)]
-pub enum Built {
-    Done(Builder),
-    // Cause 1, with the same record.
+// The refusal of a call, with the same record.
+#[derive(Clone, Copy)]
+pub enum BuildError {
+    // Cause 1: the record does not suit the buffers.
     BadRecord(Builder),
-    // Cause 5, with the same record.
+    // Cause 5: the call needs more verbs or points than are free.
     NoRoom(Builder),
 }
 
-// A conic's answer has its joint word.
-#[derive(Drop)]
-pub enum ConicBuilt {
-    Done(Builder, u64),
-    BadRecord(Builder),
-    NoRoom(Builder),
+impl BuildError {
+    // Document 01's number.
+    pub fn number(self) -> u8
+        ensures { result ≡ number_of self }
+    {
+        match self {
+            BuildError::BadRecord(_) => 1,
+            BuildError::NoRoom(_) => 5,
+        }
+    }
+
+    pub fn builder(self) -> Builder
+        ensures { result ≡ record_of self }
+    {
+        match self {
+            BuildError::BadRecord(b) => b,
+            BuildError::NoRoom(b) => b,
+        }
+    }
+}
+
+impl fmt::Display for BuildError {
+    fn fmt<W: fmt::Write>(&self, f: &mut fmt::Formatter<W>) -> fmt::Result {
+        f.write_str(match self {
+            BuildError::BadRecord(_) => "the record does not suit the buffers",
+            BuildError::NoRoom(_) => "no room in the buffers",
+        })
+    }
 }
 
 // A conic that starts at the pen: on an empty builder at (0, 0), whatever the record's pen.
@@ -126,37 +149,24 @@ pub fn need(b: Builder, call: Call) -> Need
     }
 }
 
-// Whether a need is met by buffers of these lengths: the refusal, or the record as it was.
-pub fn admit(b: Builder, verbs: usize, floats: usize, need: Need) -> Built
+// Whether a need is met by buffers of these lengths.
+pub fn admit(b: Builder, verbs: usize, floats: usize, need: Need) -> Result<(), BuildError>
     ensures { result ≡ admit_of b verbs floats need }
 {
     if stream::bad_record(b, verbs, floats) {
-        return Built::BadRecord(b);
+        return Err(BuildError::BadRecord(b));
     }
     if stream::has_room(b, verbs, floats, need) {
-        return Built::Done(b);
+        return Ok(());
     }
-    Built::NoRoom(b)
+    Err(BuildError::NoRoom(b))
 }
 
 // The same of a lowered conic. Buffers with room for the largest need, 64 quads, have room for any:
 // only in fuller ones are the quads counted.
-pub fn admit_lowered(b: Builder, verbs: usize, floats: usize, l: Lowered) -> Built
+pub fn admit_lowered(b: Builder, verbs: usize, floats: usize, l: Lowered) -> Result<(), BuildError>
     ensures { result ≡ admit_of b verbs floats (need_of (elements_of (opening (is_empty b) ++ lowered_of l))) }
 {
-    let a = admit(b, verbs, floats, opened_need(b, MOST_QUADS, 2 * MOST_QUADS));
-    let Built::Done(_) = a else {
-        return admit(b, verbs, floats, lowered_need(b, l));
-    };
-    a
-}
-
-pub fn with_word(a: Built, word: u64) -> ConicBuilt
-    ensures { result ≡ with_word a word }
-{
-    match a {
-        Built::Done(b) => ConicBuilt::Done(b, word),
-        Built::BadRecord(b) => ConicBuilt::BadRecord(b),
-        Built::NoRoom(b) => ConicBuilt::NoRoom(b),
-    }
+    let largest = opened_need(b, MOST_QUADS, 2 * MOST_QUADS);
+    admit(b, verbs, floats, largest).or_else(|_| admit(b, verbs, floats, lowered_need(b, l)))
 }

@@ -9,6 +9,7 @@ use Rattle.conic.specs.Halving.{Piece, pieces_of, word_of}
 use Rattle.conic.specs.Spans.{WholeConic}
 use Rattle.stream.specs.declared.Builder.{Builder}
 use Rattle.stream.specs.declared.Element.{Element}
+use Rattle.lowering.specs.declared.Written.{Written}
 use Rattle.stream.specs.declared.Element.TheVariants.{Line, Quad}
 
 -- an element by itself, or as the quad of a conic's piece, with its span
@@ -39,6 +40,10 @@ pieces_in (e ∷ es) = cons_piece e (pieces_in es)
 
 abbrev pub joint_word : List Entry → ℕ
 joint_word es = word_of (pieces_in es)
+
+-- the record after what is no conic: it has no joint word
+abbrev pub plainly_written : Builder → Written
+plainly_written b = record { builder = b; word = 0 }
 
 -- a conic as the line or the pieces that it is lowered to
 unfoldable pub lowered_of : Lowered → List Entry

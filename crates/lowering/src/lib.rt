@@ -8,7 +8,7 @@ ghost use Rattle.std.specs.Float.{nan};
 ghost use Rattle.conic.specs.Conic.{conic_at, distance_of, chord_of, near_one_of, near_of, flat_of, surely_near, surely_far, flatness_of, half_weight_of};
 ghost use Rattle.conic.specs.Halving.{halve, word_of, pieces_of, count_of};
 ghost use Rattle.stream.specs.Stream.{put, all_floats, state, push, push_all, Fits};
-ghost use Rattle.lowering.specs.Entries.{elements_of, quads_of, lowered_of, joint_word, builder_at};
+ghost use Rattle.lowering.specs.Entries.{elements_of, quads_of, lowered_of, joint_word, plainly_written, builder_at};
 ghost use Rattle.lowering.specs.Quads.{HasRoom, Known, Remembers, Lowers};
 
 use conic::{Conic, Flatness, Lowered, MAX_DEPTH};
@@ -20,6 +20,15 @@ use stream::{Builder, Element};
 pub struct Written {
     pub builder: Builder,
     pub word: u64,
+}
+
+// What is no conic has no joint word.
+impl From<Builder> for Written {
+    ghost from_gives = { λ b w. w ≡ plainly_written b };
+
+    fn from(builder: Builder) -> Written {
+        Written { builder, word: 0 }
+    }
 }
 
 // How many quads were written, and the bits where they start.

@@ -1,5 +1,6 @@
-use Rattle.calls.proofs.Admission.{admitted_for, refused-is, done-is}
+use Rattle.calls.proofs.Admission.{admitted_for, passed_on, refused-is, done-is}
 use Rattle.calls.proofs.Opening.{closing_empty, closing-held}
+use Rattle.std.proofs.Common.{rules}
 use Rattle.calls.specs.Calls.{closing, entries_of, admit_of, step}
 use Rattle.lowering.specs.Entries.{plain, elements_of, pieces_in}
 use Rattle.stream.proofs.Push.{push_all-one}
@@ -13,25 +14,26 @@ use mathlib.Core.List.{[], ◌∷◌}
 use mathlib.Core.Path.{refl, sym, ap, ◌∙◌}
 use Rattle.builder.proofs.close.Goals as goal
 
-pub returns-in_default : goal.returns-in_default
+pub returns-in_err-admit : goal.returns-in_err-admit
 unfolding step entries_of
-returns-in_default c =
+returns-in_err-admit c =
     let a = c.args in
-    refused-is (state a.b a.verbs.now a.points.now) (closing (is_empty a.b)) _ c.in_default.not-Done (c.admit-a.ensures ∙ ap (admit_of a.b (length a.verbs.now) (length a.points.now)) c.close_need.ensures)
+    passed_on _ _ _ _ (search rules)
+    ∙ refused-is (state a.b a.verbs.now a.points.now) (closing (is_empty a.b)) _ (sym (c.in_err-admit.was) ∙ c.admit.ensures ∙ ap (admit_of a.b (length a.verbs.now) (length a.points.now)) c.close_need.ensures)
 
 pub returns-then-b-eq0 : goal.returns-then-b-eq0
 unfolding step entries_of elements_of push_all pieces_in word_of
 returns-then-b-eq0 c =
     let a = c.args in
     let e = closing_empty a.b.verbs c.if-b-eq0.true in
-    rw e (done-is (state a.b a.verbs.now a.points.now) [] _ (admitted_for a.b _ _ _ _ _ [] c.close_need.ensures e c.admit-a.ensures c.in-Done.is) refl)
+    rw e (done-is (state a.b a.verbs.now a.points.now) [] _ (admitted_for a.b _ _ _ _ _ [] c.close_need.ensures e c.admit.ensures c.in_ok-admit.was) refl)
 
 pub push_close-requires : goal.push_close-requires
 unfolding elements_of sizes_of
 push_close-requires c =
     let a = c.args in
     let e = closing-held a.b.verbs c.if-b-eq0.false in
-    let h = admitted_for a.b _ (length a.verbs.now) (length a.points.now) _ _ (plain element.Close ∷ []) c.close_need.ensures e c.admit-a.ensures c.in-Done.is in
+    let h = admitted_for a.b _ (length a.verbs.now) (length a.points.now) _ _ (plain element.Close ∷ []) c.close_need.ensures e c.admit.ensures c.in_ok-admit.was in
     omega (arith, room-is a.b (length a.verbs.now) (length a.points.now) _ h.room)
 
 pub returns : goal.returns
@@ -40,4 +42,4 @@ returns c =
     let a = c.args in
     let s : State = state a.b a.verbs.now a.points.now in
     let e = closing-held a.b.verbs c.if-b-eq0.false in
-    rw e (done-is s (plain element.Close ∷ []) _ (admitted_for a.b _ _ _ _ _ (plain element.Close ∷ []) c.close_need.ensures e c.admit-a.ensures c.in-Done.is) (c.push_close.ensures ∙ sym (push_all-one s _)))
+    rw e (done-is s (plain element.Close ∷ []) _ (admitted_for a.b _ _ _ _ _ (plain element.Close ∷ []) c.close_need.ensures e c.admit.ensures c.in_ok-admit.was) (c.push_close.ensures ∙ sym (push_all-one s _)))

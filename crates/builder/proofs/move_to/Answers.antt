@@ -1,4 +1,5 @@
-use Rattle.calls.proofs.Admission.{admitted, refused-is, done-is}
+use Rattle.calls.proofs.Admission.{admitted, passed_on, refused-is, done-is}
+use Rattle.std.proofs.Common.{rules}
 use Rattle.calls.specs.Calls.{entries_of, step}
 use Rattle.lowering.specs.Entries.{plain, elements_of, pieces_in}
 use Rattle.stream.proofs.Push.{push_all-one}
@@ -12,16 +13,16 @@ use mathlib.Core.List.{[], ◌∷◌}
 use mathlib.Core.Path.{sym, ◌∙◌}
 use Rattle.builder.proofs.move_to.Goals as goal
 
-pub returns-in_default : goal.returns-in_default
+pub returns-in_err-admit : goal.returns-in_err-admit
 unfolding step entries_of elements_of sizes_of
-returns-in_default c =
+returns-in_err-admit c =
     let a = c.args in
-    refused-is (state a.b a.verbs.now a.points.now) (plain (Move a.p) ∷ []) _ c.in_default.not-Done c.admit-a.ensures
+    passed_on _ _ _ _ (search rules) ∙ refused-is (state a.b a.verbs.now a.points.now) (plain (Move a.p) ∷ []) _ (sym (c.in_err-admit.was) ∙ c.admit.ensures)
 
 pub push_move-requires : goal.push_move-requires
 push_move-requires c =
     let a = c.args in
-    let h = admitted a.b _ (length a.verbs.now) (length a.points.now) _ c.admit-a.ensures c.in-Done.is in
+    let h = admitted a.b _ (length a.verbs.now) (length a.points.now) _ c.admit.ensures c.in_ok-admit.was in
     omega (arith, room-is a.b (length a.verbs.now) (length a.points.now) _ h.room)
 
 pub returns : goal.returns
@@ -29,4 +30,4 @@ unfolding step entries_of elements_of sizes_of pieces_in word_of
 returns c =
     let a = c.args in
     let s : State = state a.b a.verbs.now a.points.now in
-    done-is s (plain (Move a.p) ∷ []) _ (admitted a.b _ (length a.verbs.now) (length a.points.now) _ c.admit-a.ensures c.in-Done.is) (c.push_move.ensures ∙ sym (push_all-one s _))
+    done-is s (plain (Move a.p) ∷ []) _ (admitted a.b _ (length a.verbs.now) (length a.points.now) _ c.admit.ensures c.in_ok-admit.was) (c.push_move.ensures ∙ sym (push_all-one s _))
