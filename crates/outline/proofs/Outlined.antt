@@ -4,16 +4,17 @@ use mathlib.Core.List.{List}
 use Prim.Native.Nat.{ℕ}
 use lib.ListN.{length}
 use lib.Ieee.{Float}
+use Rattle.std.specs.Prelude.{⊤}
+use Rattle.std.proofs.Common.{Result, Ok, Err}
 use Rattle.stream.specs.declared.Builder.{Builder}
 use Rattle.stream.specs.declared.Element.{Element}
 use Rattle.stream.specs.declared.Need.{Need}
 use Rattle.stream.specs.Stream.{State, origin, need_of, push_all, Fits, start_after, pen_after}
 use Rattle.stream.proofs.Tests.{room-is}
 use Rattle.lowering.specs.Entries.{elements_of}
-use Rattle.calls.specs.declared.Built.{Built}
-use Rattle.calls.specs.declared.Built.TheVariants.{Done, BadRecord, NoRoom}
+use Rattle.calls.specs.declared.BuildError.{BuildError}
 use Rattle.calls.specs.Calls.{entries_of, outcome, outcome_of, admit_of}
-use Rattle.calls.proofs.Admission.{Admitted, admitted_for, refused-is, done-is}
+use Rattle.calls.proofs.Admission.{Admitted, admitted_for, refused-is, done-is, passed_on}
 use Rattle.calls.proofs.Largest.{Covered}
 use Rattle.contour.proofs.Turns.{drawn-sizes}
 use Rattle.shape.specs.declared.RoundSuperellipse.{RoundSuperellipse}
@@ -22,12 +23,6 @@ use Rattle.corners.specs.Calls.{Drawing, drawing_of, calls_in, outline_of, outli
 use Rattle.contour.specs.Entries.{entries_along, outline_entries, elements_along, push_calls, RoomAlong}
 use Rattle.outline.specs.declared.BuildingCall.TheVariants.{AddTo}
 use Rattle.outline.specs.Step.{wordless, step}
-
--- a call other than a conic has no word
-built-wordless : (r : Built) (vs : List ℕ) (fs : List Float) → outcome_of r vs fs ≡ wordless (outcome_of r vs fs)
-built-wordless (Done b) vs fs = refl
-built-wordless (BadRecord b) vs fs = refl
-built-wordless (NoRoom b) vs fs = refl
 
 -- what is drawn begins with a move, so it is the same from every pen
 drawn_anywhere : (s : State) (d : Drawing) → elements_along s (calls_in d) ≡ elements_of (entries_along origin origin (calls_in d))
@@ -42,7 +37,7 @@ module _ (s : State) (shape : RoundSuperellipse) (o : Outline) (e : drawing_of o
   abbrev drawn : List Element
   drawn = elements_of (entries_along origin origin (calls_in (drawing_of o)))
 
-  abbrev here : Need → Built
+  abbrev here : Need → Result ⊤ BuildError
   here n = admit_of s.builder (length s.verbs) (length s.floats) n
 
   abbrev AdmittedHere : Type 0
@@ -52,12 +47,12 @@ module _ (s : State) (shape : RoundSuperellipse) (o : Outline) (e : drawing_of o
   unfolding outline_entries outline_calls
   drawn-is = ap (λ (d : Drawing). elements_of (entries_along origin origin (calls_in d))) e
 
-  pub outline_refused : (n : Need) (r : Built) → n ≡ need_of drawn → r ≡ here n → ((b : Builder) → r ≡ Done b → ⊥) → outcome_of r s.verbs s.floats ≡ step s (AddTo shape)
+  pub outline_refused : (n : Need) (a : Result ⊤ BuildError) (r : Result Builder BuildError) (x : BuildError) → n ≡ need_of drawn → a ≡ here n → a ≡ Err x → r ≡ Err x → outcome_of r s.verbs s.floats ≡ step s (AddTo shape)
   unfolding step
-  outline_refused n r f a h =
-      built-wordless r s.verbs s.floats ∙ ap wordless (refused-is s (outline_entries shape) r h (a ∙ ap (λ (x : Need). here x) (f ∙ ap need_of drawn-is)))
+  outline_refused n a r x f h w q =
+      passed_on r x s.verbs s.floats q ∙ ap wordless (refused-is s (outline_entries shape) x (sym w ∙ h ∙ ap (λ (m : Need). here m) (f ∙ ap need_of drawn-is)))
 
-  pub outline_admitted : (n : Need) (r : Built) (x : Builder) → n ≡ need_of drawn → r ≡ here n → r ≡ Done x → AdmittedHere
+  pub outline_admitted : (n : Need) (r : Result ⊤ BuildError) (x : ⊤) → n ≡ need_of drawn → r ≡ here n → r ≡ Ok x → AdmittedHere
   outline_admitted n r x f a d = admitted_for s.builder x (length s.verbs) (length s.floats) n (outline_entries shape) (outline_entries shape) (f ∙ ap need_of drawn-is) refl a d
 
   pub outline_room : AdmittedHere → RoomAlong s (calls_in (drawing_of o))

@@ -12,7 +12,7 @@ ghost use Rattle.corners.specs.Calls.{conic_call, calls_forwards, calls_backward
 ghost use Rattle.contour.specs.Entries.{entries_along, push_calls, RoomAlong};
 ghost use Rattle.outline.specs.Step.{step};
 
-use calls::Built;
+use calls::BuildError;
 use conic::Conic;
 use corners::{Backwards, ConicArc, Corner, Corners, Forwards, Outline};
 use geometry::Point;
@@ -118,28 +118,27 @@ fn push_outline(b: Builder, verbs: &mut [u8], points: &mut [f32], o: Outline) ->
 }
 
 // Buffers with room for the largest outline have room for any: only in fuller ones is the need counted.
-fn admit_outline(b: Builder, verbs: usize, floats: usize, o: Outline) -> Built
+fn admit_outline(b: Builder, verbs: usize, floats: usize, o: Outline) -> Result<(), BuildError>
     ensures { result ≡ admit_of b verbs floats (need_of (elements_of (entries_along origin origin (calls_in (drawing_of o))))) }
 {
     let largest = Need {
         verbs: MOST_VERBS,
         points: MOST_POINTS,
     };
-    let a = calls::admit(b, verbs, floats, largest);
-    let Built::Done(_) = a else {
-        return calls::admit(b, verbs, floats, contour::outline_need(o));
-    };
-    a
+    calls::admit(b, verbs, floats, largest)
+        .or_else(|_| calls::admit(b, verbs, floats, contour::outline_need(o)))
 }
 
 // The outline behind the held elements: a move, four corners, a line to the move's point, a close.
-pub fn add_to(shape: RoundSuperellipse, b: Builder, verbs: &mut [u8], points: &mut [f32]) -> Built
+pub fn add_to(
+    shape: RoundSuperellipse,
+    b: Builder,
+    verbs: &mut [u8],
+    points: &mut [f32],
+) -> Result<Builder, BuildError>
     ensures { outcome_of result verbs.new points.new ≡ step (state b verbs.old points.old) (BuildingCall.AddTo shape) }
 {
     let o = corners::draw(shape);
-    let a = admit_outline(b, verbs.len(), points.len(), o);
-    let Built::Done(_) = a else {
-        return a;
-    };
-    Built::Done(push_outline(b, verbs, points, o))
+    admit_outline(b, verbs.len(), points.len(), o)?;
+    Ok(push_outline(b, verbs, points, o))
 }
