@@ -24,7 +24,12 @@ fn ensure_started(b: Builder, verbs: &mut [u8], points: &mut [f32]) -> Builder
     b
 }
 
-pub fn move_to(b: Builder, verbs: &mut [u8], points: &mut [f32], p: Point) -> Result<Builder, BuildError>
+pub fn move_to(
+    b: Builder,
+    verbs: &mut [u8],
+    points: &mut [f32],
+    p: Point,
+) -> Result<Builder, BuildError>
     ensures { outcome_of result verbs.new points.new ≡ step (state b verbs.old points.old) (Call.MoveTo p) }
 {
     let need = Need {
@@ -35,7 +40,12 @@ pub fn move_to(b: Builder, verbs: &mut [u8], points: &mut [f32], p: Point) -> Re
     Ok(stream::push_move(b, verbs, points, p))
 }
 
-pub fn line_to(b: Builder, verbs: &mut [u8], points: &mut [f32], p: Point) -> Result<Builder, BuildError>
+pub fn line_to(
+    b: Builder,
+    verbs: &mut [u8],
+    points: &mut [f32],
+    p: Point,
+) -> Result<Builder, BuildError>
     ensures { outcome_of result verbs.new points.new ≡ step (state b verbs.old points.old) (Call.LineTo p) }
 {
     calls::admit(b, verbs.len(), points.len(), calls::opened_need(b, 1, 1))?;
@@ -43,7 +53,13 @@ pub fn line_to(b: Builder, verbs: &mut [u8], points: &mut [f32], p: Point) -> Re
     Ok(stream::push_line(o, verbs, points, p))
 }
 
-pub fn quad_to(b: Builder, verbs: &mut [u8], points: &mut [f32], ctrl: Point, p: Point) -> Result<Builder, BuildError>
+pub fn quad_to(
+    b: Builder,
+    verbs: &mut [u8],
+    points: &mut [f32],
+    ctrl: Point,
+    p: Point,
+) -> Result<Builder, BuildError>
     ensures { outcome_of result verbs.new points.new ≡ step (state b verbs.old points.old) (Call.QuadTo ctrl p) }
 {
     calls::admit(b, verbs.len(), points.len(), calls::opened_need(b, 1, 2))?;

@@ -7,29 +7,35 @@ ghost use Rattle.stream.specs.Stream.{state};
 ghost use Rattle.calls.specs.Calls.{conic_outcome_of};
 ghost use Rattle.outline.specs.Step.{step};
 
-use calls::ConicBuilt;
+use calls::BuildError;
+use lowering::Written;
 use outline::BuildingCall;
 use stream::Builder;
 
 // Answers as the call does; the joint word is 0 where the call has none.
-pub fn apply(b: Builder, verbs: &mut [u8], points: &mut [f32], call: BuildingCall) -> ConicBuilt
+pub fn apply(
+    b: Builder,
+    verbs: &mut [u8],
+    points: &mut [f32],
+    call: BuildingCall,
+) -> Result<Written, BuildError>
     ensures { conic_outcome_of result verbs.new points.new ≡ step (state b verbs.old points.old) call }
 {
     match call {
-        BuildingCall::MoveTo(p) => calls::with_word(builder::move_to(b, verbs, points, p), 0),
-        BuildingCall::LineTo(p) => calls::with_word(builder::line_to(b, verbs, points, p), 0),
+        BuildingCall::MoveTo(p) => builder::move_to(b, verbs, points, p).map(Written::from),
+        BuildingCall::LineTo(p) => builder::line_to(b, verbs, points, p).map(Written::from),
         BuildingCall::QuadTo(ctrl, p) => {
-            calls::with_word(builder::quad_to(b, verbs, points, ctrl, p), 0)
+            builder::quad_to(b, verbs, points, ctrl, p).map(Written::from)
         }
         BuildingCall::ConicTo(ctrl, to, weight) => {
             builder::conic_to(b, verbs, points, ctrl, to, weight)
         }
         BuildingCall::CubicTo(c0, c1, p) => {
-            calls::with_word(builder::cubic_to(b, verbs, points, c0, c1, p), 0)
+            builder::cubic_to(b, verbs, points, c0, c1, p).map(Written::from)
         }
-        BuildingCall::Close => calls::with_word(builder::close(b, verbs, points), 0),
+        BuildingCall::Close => builder::close(b, verbs, points).map(Written::from),
         BuildingCall::AddTo(shape) => {
-            calls::with_word(outline::add_to(shape, b, verbs, points), 0)
+            outline::add_to(shape, b, verbs, points).map(Written::from)
         }
     }
 }

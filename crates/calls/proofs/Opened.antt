@@ -10,7 +10,7 @@ use Rattle.conic.specs.declared.Conic.{Conic}
 use Rattle.conic.specs.declared.Lowered.{Lowered}
 use Rattle.conic.specs.Conic.{lower_of}
 use Rattle.conic.specs.Halving.{word_of}
-use Rattle.std.specs.Prelude.{⊤}
+use Rattle.std.specs.Prelude.{⊤, MatchResult, IsOkAnd}
 use Rattle.std.proofs.Common.{Result, Ok, Err}
 use Rattle.stream.specs.declared.Builder.{Builder}
 use Rattle.stream.specs.declared.Element.{Element}
@@ -18,11 +18,12 @@ use Rattle.stream.specs.declared.Need.{Need}
 use Rattle.stream.specs.Stream.{State, is_empty, need_of, push, push_all, size_of, sizes_of}
 use Rattle.stream.proofs.Tests.{room-is}
 use Rattle.stream.proofs.Push.{push_all-one, push_all_append, push_all-verbs, push-all_points, sizes_append, sizes-one}
-use Rattle.lowering.specs.Entries.{Entry, plain, elements_of, pieces_in, joint_word, lowered_of}
+use Rattle.lowering.specs.declared.Written.{Written}
+use Rattle.lowering.specs.Entries.{Entry, plain, elements_of, pieces_in, joint_word, lowered_of, plainly_written}
 use Rattle.lowering.proofs.Entries.{elements_append}
 use Rattle.calls.specs.declared.BuildError.{BuildError}
 use Rattle.calls.specs.declared.Call.TheVariants as call
-use Rattle.calls.specs.Calls.{opening, opened_need, conic_from, entries_of, outcome, attempt, step, admit_of, refusal_of}
+use Rattle.calls.specs.Calls.{opening, opened_need, conic_from, entries_of, outcome, attempt, step, admit_of, refusal_of, outcome_of, conic_outcome_of}
 use Rattle.calls.proofs.Opening.{word-opened, opened-need, opening_count, opening-size}
 use Rattle.calls.proofs.Admission.{Admitted, admitted_for, refused-is, done-is}
 
@@ -85,7 +86,16 @@ pub one-room : (s : State) (k : Element) (n : Need) (r : Result ⊤ BuildError) 
 unfolding elements_of
 one-room s k n r x e a d = omega (arith, opened-room s (plain k ∷ []) (one-admitted s k n r x e a d), sizes-one k)
 
+ok_and : (r : Result Written BuildError) (w : Written) → IsOkAnd r (λ x. x ≡ w) → r ≡ Ok w
+ok_and (Ok x) w h = ap (λ (y : Written). Ok y) h
+ok_and (Err e) w h = absurd h
+
 -- ---- a conic's call
+
+-- an answer with no word
+pub no_word : (a : Result Builder BuildError) (r : Result Written BuildError) (vs : List ℕ) (fs : List Float) → MatchResult a (λ b. IsOkAnd r (λ w. w ≡ plainly_written b)) (λ e. r ≡ Err e) → conic_outcome_of r vs fs ≡ outcome_of a vs fs
+no_word (Ok b) r vs fs h = ap (λ (x : Result Written BuildError). conic_outcome_of x vs fs) (ok_and r (plainly_written b) h)
+no_word (Err e) r vs fs h = ap (λ (x : Result Written BuildError). conic_outcome_of x vs fs) h
 
 -- what its step attempts, with the lowered conic that the code has
 pub conic-step : (s : State) (ctrl to : Point) (w : Float) (c : Conic) (l : Lowered) → c ≡ conic_from (is_empty s.builder) s.builder.pen ctrl to w → l ≡ lower_of c

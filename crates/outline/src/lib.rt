@@ -125,8 +125,12 @@ fn admit_outline(b: Builder, verbs: usize, floats: usize, o: Outline) -> Result<
         verbs: MOST_VERBS,
         points: MOST_POINTS,
     };
-    calls::admit(b, verbs, floats, largest)
-        .or_else(|_| calls::admit(b, verbs, floats, contour::outline_need(o)))
+    calls::admit(b, verbs, floats, largest).or_else(|_| calls::admit(
+        b,
+        verbs,
+        floats,
+        contour::outline_need(o),
+    ))
 }
 
 // The outline behind the held elements: a move, four corners, a line to the move's point, a close.
