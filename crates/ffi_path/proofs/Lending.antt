@@ -1,22 +1,21 @@
 -- A call on a record in lent numbers, case by case.
 use mathlib.Core.Path.{◌≡◌, refl, sym, ap, ◌∙◌}
-use mathlib.Core.Bool.{Bool, true, false, ◌&&◌}
+use mathlib.Core.Bool.{Bool, true, false, ◌&&◌, cond}
 use mathlib.Core.List.{List, ◌++◌, append-nil}
 use Prim.Native.Nat.{ℕ}
 use native.Mathlib.Nat.{zero-add, le_of_eq}
-use borrow.Author.Tests.{eqb-true}
+use borrow.Author.Tests.{eqb-true, eq-eqb, ne_eqb}
 use lib.ListN.{length, drop}
 use lib.Seq.{sets, sets-eq, drop-length}
 use lib.Dec.{eqb}
 use lib.Ieee.{Float}
+use Rattle.std.proofs.Common.{Option, Some, None}
 use Rattle.stream.specs.declared.Builder.{Builder}
 use Rattle.stream.specs.Stream.{State, state}
-use Rattle.calls.specs.declared.Built.{Built}
-use Rattle.calls.specs.declared.ConicBuilt.{ConicBuilt}
-use Rattle.calls.specs.declared.ConicBuilt.TheVariants.{Done, BadRecord, NoRoom}
-use Rattle.calls.specs.Calls.{Outcome, outcome_of, conic_outcome_of, with_word}
-use Rattle.calls.proofs.Opened.{no_word}
-use Rattle.ffi_path.specs.Lent.{builder_at, counts_of, places_of, fitting, Left, left, left_by, lent_by}
+use Rattle.calls.specs.declared.BuildError.{BuildError}
+use Rattle.calls.specs.declared.BuildError.TheVariants.{BadRecord, NoRoom}
+use Rattle.calls.specs.Calls.{Outcome, number_of, refusal_of}
+use Rattle.ffi_path.specs.Lent.{builder_at, record_in, fitting, Left, left, left_by, lent_by}
 
 -- stores that fill a list
 pub filled {ℓ} : {A : Type ℓ} (l vs : List A) → length l ≡ length vs → sets l 0 vs ≡ vs
@@ -35,28 +34,57 @@ pub fitting-is : (n m : ℕ) (r : Bool) → r ≡ fitting n m → r ≡ true →
 unfolding fitting
 fitting-is n m r e t = let h = both (eqb n 3) (eqb m 4) (sym e ∙ t) in (eqb-true n 3 h.0, eqb-true m 4 h.1)
 
--- an answer taken apart
-module _ (a : ConicBuilt) (vs : List ℕ) (fs : List Float) (counts : List ℕ) (places : List Float) where
-  pub done : (b : Builder) (w : ℕ) (cs : List ℕ) (ps : List Float) → a ≡ Done b w → cs ≡ counts_of b w → ps ≡ places_of b → left 0 cs ps vs fs ≡ left_by (conic_outcome_of a vs fs) counts places
-  unfolding left_by
-  done b w cs ps e c p = rw (e, c, p)
+and_false : (a : Bool) → a && false ≡ false
+and_false true = refl
+and_false false = refl
 
-  pub bad_record_lem : (b : Builder) → a ≡ BadRecord b → left 1 counts places vs fs ≡ left_by (conic_outcome_of a vs fs) counts places
-  unfolding left_by
-  bad_record_lem b e = rw e
+-- the record of slices that hold one
+pub record RecordIn (counts : List ℕ) (places : List Float) (b : Builder) : Type 0 where
+  pub counted : length counts ≡ 3
+  pub placed : length places ≡ 4
+  pub fits : fitting (length counts) (length places) ≡ true
+  pub builder : b ≡ builder_at counts places
 
-  pub no_room : (b : Builder) → a ≡ NoRoom b → left 5 counts places vs fs ≡ left_by (conic_outcome_of a vs fs) counts places
-  unfolding left_by
-  no_room b e = rw e
+record_go : (counts : List ℕ) (places : List Float) (b : Builder) (t : Bool) → fitting (length counts) (length places) ≡ t → Some b ≡ cond t (Some (builder_at counts places)) None → RecordIn counts places b
+record_go counts places b true e h = let l = fitting-is _ _ _ (sym e) refl in record { counted = l.0; placed = l.1; fits = e; builder = cc }
+record_go counts places b false e h = absurd cc
 
-pub wordless : (a : Built) (r : ConicBuilt) (vs : List ℕ) (fs : List Float) (counts : List ℕ) (places : List Float) (l : Left)
-    → r ≡ with_word a 0 → l ≡ left_by (conic_outcome_of r vs fs) counts places → l ≡ left_by (outcome_of a vs fs) counts places
-wordless a r vs fs counts places l e h = h ∙ ap (λ (o : Outcome). left_by o counts places) (no_word r a vs fs e)
+pub record_is : (counts : List ℕ) (places : List Float) (b : Builder) (r : Option Builder) → r ≡ record_in counts places → r ≡ Some b → RecordIn counts places b
+unfolding record_in
+record_is counts places b r e h = record_go counts places b _ refl (sym h ∙ e)
+
+no_go : (counts : List ℕ) (places : List Float) (t : Bool) → None ≡ cond t (Some (builder_at counts places)) None → t ≡ false
+no_go counts places true h = absurd cc
+no_go counts places false h = refl
+
+pub no_record : (counts : List ℕ) (places : List Float) (r : Option Builder) → r ≡ record_in counts places → r ≡ None → fitting (length counts) (length places) ≡ false
+unfolding record_in
+no_record counts places r e h = no_go counts places _ (sym h ∙ e)
+
+-- slices that hold none, or one
+module _ (counts : List ℕ) (places : List Float) where
+  pub not_counts : (length counts ≡ 3 → ⊥) → None ≡ record_in counts places
+  unfolding record_in fitting
+  not_counts h = rw (ne_eqb (length counts) 3 h)
+
+  pub not_places : (length places ≡ 4 → ⊥) → None ≡ record_in counts places
+  unfolding record_in fitting
+  not_places h = rw (ne_eqb (length places) 4 h, and_false (eqb (length counts) 3))
+
+  pub as_record : length counts ≡ 3 → length places ≡ 4 → Some (builder_at counts places) ≡ record_in counts places
+  unfolding record_in fitting
+  as_record h k = rw (eq-eqb (length counts) 3 h, eq-eqb (length places) 4 k)
+
+-- a refusal leaves the record
+pub refusal_left : (e : BuildError) (n : ℕ) (counts : List ℕ) (places : List Float) (vs : List ℕ) (fs : List Float) → n ≡ number_of e → left n counts places vs fs ≡ left_by (refusal_of e vs fs) counts places
+unfolding left_by
+refusal_left (BadRecord b) n counts places vs fs h = rw h
+refusal_left (NoRoom b) n counts places vs fs h = rw h
 
 -- a call of any kind
-module _ (f : State → Outcome) (counts : List ℕ) (places : List Float) (vs : List ℕ) (fs : List Float) (t : Bool) (fit : t ≡ fitting (length counts) (length places)) where
-  pub wrong_lengths : t ≡ false → left 100 counts places vs fs ≡ lent_by f counts places vs fs
-  wrong_lengths e = rw (← fit, e)
+module _ (f : State → Outcome) (counts : List ℕ) (places : List Float) (vs : List ℕ) (fs : List Float) (r : Option Builder) (loaded : r ≡ record_in counts places) where
+  pub wrong_lengths : r ≡ None → left 100 counts places vs fs ≡ lent_by f counts places vs fs
+  wrong_lengths e = rw (no_record counts places r loaded e)
 
-  pub lent : (b : Builder) (o : Outcome) (l : Left) → t ≡ true → b ≡ builder_at counts places → o ≡ f (state b vs fs) → l ≡ left_by o counts places → l ≡ lent_by f counts places vs fs
-  lent b o l e eb eo el = rw (← fit, e, ← eb, ← eo, el)
+  pub lent : (b : Builder) (o : Outcome) (l : Left) → r ≡ Some b → o ≡ f (state b vs fs) → l ≡ left_by o counts places → l ≡ lent_by f counts places vs fs
+  lent b o l e eo el = let k = record_is counts places b r loaded e in rw (k.fits, ← k.builder, ← eo, el)

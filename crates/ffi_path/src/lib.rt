@@ -6,51 +6,48 @@
 #![tactic(auto)]
 
 ghost use Rattle.std.specs.Prelude.{◌≡◌, List, ℕ, Float, length};
-ghost use Rattle.calls.specs.Calls.{outcome_of, conic_outcome_of};
-ghost use Rattle.ffi_path.specs.Lent.{point, builder_at, counts_of, places_of, fitting, left, left_by, lent_step};
+ghost use Rattle.calls.specs.Calls.{conic_outcome_of};
+ghost use Rattle.ffi_path.specs.Lent.{point, record_in, counts_of, places_of, left, left_by, lent_step};
 
-use calls::{Built, Call, ConicBuilt};
+use calls::{BuildError, Call};
 use geometry::Point;
+use lowering::Written;
 use stream::Builder;
 
-const COUNTS_LENGTH: usize = 3;
+pub const WRONG_LENGTH: u32 = 100;
 
-const PLACES_LENGTH: usize = 4;
-
-const WRONG_LENGTH: u32 = 100;
-
-// Whether slices of these lengths hold a record.
-pub fn lengths_fit(counts: usize, places: usize) -> bool
-    ensures { result ≡ fitting counts places }
+// The record in the lent numbers, where the slices have the lengths of one.
+pub fn load(counts: &[u64], places: &[f32]) -> Option<Builder>
+    ensures { result ≡ record_in counts.now places.now }
 {
-    counts == COUNTS_LENGTH && places == PLACES_LENGTH
-}
-
-pub fn load(counts: &[u64], places: &[f32]) -> Builder
-    requires { (length counts.now ≡ 3) × (length places.now ≡ 4) }
-    ensures { result ≡ builder_at counts.now places.now }
-{
-    Builder {
-        verbs: counts[0] as usize,
-        points: counts[1] as usize,
+    let [verbs, points, _] = counts else {
+        return None;
+    };
+    let [start_x, start_y, pen_x, pen_y] = places else {
+        return None;
+    };
+    Some(Builder {
+        verbs: *verbs as usize,
+        points: *points as usize,
         start: Point {
-            x: places[0],
-            y: places[1],
+            x: *start_x,
+            y: *start_y,
         },
         pen: Point {
-            x: places[2],
-            y: places[3],
+            x: *pen_x,
+            y: *pen_y,
         },
-    }
+    })
 }
 
-fn store(counts: &mut [u64], places: &mut [f32], b: Builder, word: u64)
+fn store(counts: &mut [u64], places: &mut [f32], w: Written)
     requires { (length counts.old ≡ 3) × (length places.old ≡ 4) }
-    ensures { (counts.new ≡ counts_of b word) × (places.new ≡ places_of b) }
+    ensures { (counts.new ≡ counts_of w.builder w.word) × (places.new ≡ places_of w.builder) }
 {
+    let b = w.builder;
     counts[0] = b.verbs as u64;
     counts[1] = b.points as u64;
-    counts[2] = word;
+    counts[2] = w.word;
     places[0] = b.start.x;
     places[1] = b.start.y;
     places[2] = b.pen.x;
@@ -58,26 +55,17 @@ fn store(counts: &mut [u64], places: &mut [f32], b: Builder, word: u64)
 }
 
 // The number of an answer. An accepted call's record and joint word go to the lent numbers.
-fn settle(counts: &mut [u64], places: &mut [f32], a: ConicBuilt) -> u32
+pub fn settle(counts: &mut [u64], places: &mut [f32], a: Result<Written, BuildError>) -> u32
     requires { (length counts.old ≡ 3) × (length places.old ≡ 4) }
     ensures { (vs : List ℕ) (fs : List Float) → left result counts.new places.new vs fs ≡ left_by (conic_outcome_of a vs fs) counts.old places.old }
 {
     match a {
-        ConicBuilt::Done(b, word) => {
-            store(counts, places, b, word);
+        Ok(w) => {
+            store(counts, places, w);
             0
         }
-        ConicBuilt::BadRecord(_) => 1,
-        ConicBuilt::NoRoom(_) => 5,
+        Err(e) => u32::from(e.number()),
     }
-}
-
-// The same of an answer with no joint word.
-pub fn settle_plain(counts: &mut [u64], places: &mut [f32], a: Built) -> u32
-    requires { (length counts.old ≡ 3) × (length places.old ≡ 4) }
-    ensures { (vs : List ℕ) (fs : List Float) → left result counts.new places.new vs fs ≡ left_by (outcome_of a vs fs) counts.old places.old }
-{
-    settle(counts, places, calls::with_word(a, 0))
 }
 
 pub fn shackletongue_move_to(
@@ -90,11 +78,11 @@ pub fn shackletongue_move_to(
 ) -> u32
     ensures { left result counts.new places.new verbs.new points.new ≡ lent_step (Call.MoveTo (point x y)) counts.old places.old verbs.old points.old }
 {
-    if lengths_fit(counts.len(), places.len()) {
-        let a = builder::move_to(load(counts, places), verbs, points, Point { x, y });
-        return settle_plain(counts, places, a);
-    }
-    WRONG_LENGTH
+    let Some(b) = load(counts, places) else {
+        return WRONG_LENGTH;
+    };
+    let a = builder::move_to(b, verbs, points, Point { x, y }).map(Written::from);
+    settle(counts, places, a)
 }
 
 pub fn shackletongue_line_to(
@@ -107,11 +95,11 @@ pub fn shackletongue_line_to(
 ) -> u32
     ensures { left result counts.new places.new verbs.new points.new ≡ lent_step (Call.LineTo (point x y)) counts.old places.old verbs.old points.old }
 {
-    if lengths_fit(counts.len(), places.len()) {
-        let a = builder::line_to(load(counts, places), verbs, points, Point { x, y });
-        return settle_plain(counts, places, a);
-    }
-    WRONG_LENGTH
+    let Some(b) = load(counts, places) else {
+        return WRONG_LENGTH;
+    };
+    let a = builder::line_to(b, verbs, points, Point { x, y }).map(Written::from);
+    settle(counts, places, a)
 }
 
 pub fn shackletongue_quad_to(
@@ -126,17 +114,13 @@ pub fn shackletongue_quad_to(
 ) -> u32
     ensures { left result counts.new places.new verbs.new points.new ≡ lent_step (Call.QuadTo (point cx cy) (point x y)) counts.old places.old verbs.old points.old }
 {
-    if lengths_fit(counts.len(), places.len()) {
-        let a = builder::quad_to(
-            load(counts, places),
-            verbs,
-            points,
-            Point { x: cx, y: cy },
-            Point { x, y },
-        );
-        return settle_plain(counts, places, a);
-    }
-    WRONG_LENGTH
+    let Some(b) = load(counts, places) else {
+        return WRONG_LENGTH;
+    };
+    let a = builder::quad_to(b, verbs, points, Point { x: cx, y: cy }, Point { x, y }).map(
+        Written::from,
+    );
+    settle(counts, places, a)
 }
 
 // The joint word is the third of the counts.
@@ -153,18 +137,18 @@ pub fn shackletongue_conic_to(
 ) -> u32
     ensures { left result counts.new places.new verbs.new points.new ≡ lent_step (Call.ConicTo (point cx cy) (point x y) weight) counts.old places.old verbs.old points.old }
 {
-    if lengths_fit(counts.len(), places.len()) {
-        let a = builder::conic_to(
-            load(counts, places),
-            verbs,
-            points,
-            Point { x: cx, y: cy },
-            Point { x, y },
-            weight,
-        );
-        return settle(counts, places, a);
-    }
-    WRONG_LENGTH
+    let Some(b) = load(counts, places) else {
+        return WRONG_LENGTH;
+    };
+    let a = builder::conic_to(
+        b,
+        verbs,
+        points,
+        Point { x: cx, y: cy },
+        Point { x, y },
+        weight,
+    );
+    settle(counts, places, a)
 }
 
 pub fn shackletongue_cubic_to(
@@ -181,18 +165,19 @@ pub fn shackletongue_cubic_to(
 ) -> u32
     ensures { left result counts.new places.new verbs.new points.new ≡ lent_step (Call.CubicTo (point ax ay) (point bx by) (point x y)) counts.old places.old verbs.old points.old }
 {
-    if lengths_fit(counts.len(), places.len()) {
-        let a = builder::cubic_to(
-            load(counts, places),
-            verbs,
-            points,
-            Point { x: ax, y: ay },
-            Point { x: bx, y: by },
-            Point { x, y },
-        );
-        return settle_plain(counts, places, a);
-    }
-    WRONG_LENGTH
+    let Some(b) = load(counts, places) else {
+        return WRONG_LENGTH;
+    };
+    let a = builder::cubic_to(
+        b,
+        verbs,
+        points,
+        Point { x: ax, y: ay },
+        Point { x: bx, y: by },
+        Point { x, y },
+    )
+    .map(Written::from);
+    settle(counts, places, a)
 }
 
 pub fn shackletongue_close(
@@ -203,9 +188,9 @@ pub fn shackletongue_close(
 ) -> u32
     ensures { left result counts.new places.new verbs.new points.new ≡ lent_step Call.Close counts.old places.old verbs.old points.old }
 {
-    if lengths_fit(counts.len(), places.len()) {
-        let a = builder::close(load(counts, places), verbs, points);
-        return settle_plain(counts, places, a);
-    }
-    WRONG_LENGTH
+    let Some(b) = load(counts, places) else {
+        return WRONG_LENGTH;
+    };
+    let a = builder::close(b, verbs, points).map(Written::from);
+    settle(counts, places, a)
 }

@@ -1,11 +1,12 @@
-use Rattle.ffi_path.proofs.Lending.{done, bad_record_lem, no_room}
+use mathlib.Core.Path.{◌∙◌}
+use Rattle.ffi_path.specs.Lent.{left_by}
+use Rattle.ffi_path.proofs.Lending.{refusal_left}
 use Rattle.ffi_path.proofs.settle.Goals as goal
 
-pub returns-in-Done : goal.returns-in-Done
-returns-in-Done c vs fs = done _ vs fs _ _ _ _ _ _ c.in-Done.is c.store.ensures.0 c.store.ensures.1
+pub returns-in-Ok : goal.returns-in-Ok
+unfolding left_by
+returns-in-Ok c vs fs = rw (c.in-Ok.is, c.store.ensures.0, c.store.ensures.1)
 
-pub returns-in-BadRecord : goal.returns-in-BadRecord
-returns-in-BadRecord c vs fs = bad_record_lem _ vs fs _ _ _ c.in-BadRecord.is
-
-pub returns-in-NoRoom : goal.returns-in-NoRoom
-returns-in-NoRoom c vs fs = no_room _ vs fs _ _ _ c.in-NoRoom.is
+pub returns-in-Err : goal.returns-in-Err
+unfolding left_by
+returns-in-Err c vs fs = rw c.in-Err.is (refusal_left _ _ _ _ vs fs (c.from.ensures ∙ c.number.ensures))

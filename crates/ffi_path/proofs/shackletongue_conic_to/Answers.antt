@@ -1,24 +1,24 @@
-use Rattle.ffi_path.proofs.Lending.{fitting-is, lent, wrong_lengths}
-use Rattle.ffi_path.specs.Lent.{point, lent_step}
+use Rattle.std.proofs.Common.{rules}
 use Rattle.stream.specs.Stream.{State}
-use Rattle.calls.specs.Calls.{step}
 use Rattle.calls.specs.declared.Call.TheVariants as call
+use Rattle.calls.specs.Calls.{step}
+use Rattle.ffi_path.specs.Lent.{point, lent_step}
+use Rattle.ffi_path.proofs.Lending.{record_is, lent, wrong_lengths}
 use Rattle.ffi_path.proofs.shackletongue_conic_to.Goals as goal
 
-pub load-requires : goal.load-requires
-load-requires c = fitting-is _ _ _ c.lengths_fit.ensures c.if-lengths_fit.true
+pub returns-in_default : goal.returns-in_default
+unfolding lent_step
+returns-in_default c =
+    let a = c.args in
+    wrong_lengths (λ (s : State). step s (call.ConicTo (point a.cx a.cy) (point a.x a.y) a.weight)) a.counts.now a.places.now a.verbs.now a.points.now _ c.load.ensures (search rules)
 
 pub settle-requires : goal.settle-requires
-settle-requires c = fitting-is _ _ _ c.lengths_fit.ensures c.if-lengths_fit.true
-
-pub returns-then-lengths_fit : goal.returns-then-lengths_fit
-unfolding lent_step
-returns-then-lengths_fit c =
-    let a = c.args in
-    lent (λ (s : State). step s (call.ConicTo (point a.cx a.cy) (point a.x a.y) a.weight)) _ _ a.verbs.now a.points.now _ c.lengths_fit.ensures _ _ _ c.if-lengths_fit.true c.load.ensures c.conic_to-a.ensures (c.settle.ensures _ _)
+settle-requires c =
+    let k = record_is _ _ _ _ c.load.ensures c.in-Some.is in
+    (k.counted, k.placed)
 
 pub returns : goal.returns
 unfolding lent_step
 returns c =
     let a = c.args in
-    wrong_lengths (λ (s : State). step s (call.ConicTo (point a.cx a.cy) (point a.x a.y) a.weight)) _ _ a.verbs.now a.points.now _ c.lengths_fit.ensures c.if-lengths_fit.false
+    lent (λ (s : State). step s (call.ConicTo (point a.cx a.cy) (point a.x a.y) a.weight)) a.counts.now a.places.now a.verbs.now a.points.now _ c.load.ensures _ _ _ c.in-Some.is c.conic_to-a.ensures (c.settle.ensures _ _)

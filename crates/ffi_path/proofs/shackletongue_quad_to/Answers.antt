@@ -1,24 +1,26 @@
-use Rattle.ffi_path.proofs.Lending.{fitting-is, lent, wrong_lengths}
-use Rattle.ffi_path.specs.Lent.{point, lent_step}
+use mathlib.Core.Path.{◌∙◌}
+use Rattle.std.proofs.Common.{rules}
 use Rattle.stream.specs.Stream.{State}
-use Rattle.calls.specs.Calls.{step}
 use Rattle.calls.specs.declared.Call.TheVariants as call
+use Rattle.calls.specs.Calls.{step}
+use Rattle.calls.proofs.Opened.{no_word}
+use Rattle.ffi_path.specs.Lent.{point, lent_step}
+use Rattle.ffi_path.proofs.Lending.{record_is, lent, wrong_lengths}
 use Rattle.ffi_path.proofs.shackletongue_quad_to.Goals as goal
 
-pub load-requires : goal.load-requires
-load-requires c = fitting-is _ _ _ c.lengths_fit.ensures c.if-lengths_fit.true
-
-pub settle_plain-requires : goal.settle_plain-requires
-settle_plain-requires c = fitting-is _ _ _ c.lengths_fit.ensures c.if-lengths_fit.true
-
-pub returns-then-lengths_fit : goal.returns-then-lengths_fit
+pub returns-in_default : goal.returns-in_default
 unfolding lent_step
-returns-then-lengths_fit c =
+returns-in_default c =
     let a = c.args in
-    lent (λ (s : State). step s (call.QuadTo (point a.cx a.cy) (point a.x a.y))) _ _ a.verbs.now a.points.now _ c.lengths_fit.ensures _ _ _ c.if-lengths_fit.true c.load.ensures c.quad_to-a.ensures (c.settle_plain.ensures _ _)
+    wrong_lengths (λ (s : State). step s (call.QuadTo (point a.cx a.cy) (point a.x a.y))) a.counts.now a.places.now a.verbs.now a.points.now _ c.load.ensures (search rules)
+
+pub settle-requires : goal.settle-requires
+settle-requires c =
+    let k = record_is _ _ _ _ c.load.ensures c.in-Some.is in
+    (k.counted, k.placed)
 
 pub returns : goal.returns
 unfolding lent_step
 returns c =
     let a = c.args in
-    wrong_lengths (λ (s : State). step s (call.QuadTo (point a.cx a.cy) (point a.x a.y))) _ _ a.verbs.now a.points.now _ c.lengths_fit.ensures c.if-lengths_fit.false
+    lent (λ (s : State). step s (call.QuadTo (point a.cx a.cy) (point a.x a.y))) a.counts.now a.places.now a.verbs.now a.points.now _ c.load.ensures _ _ _ c.in-Some.is (no_word c.quad_to.result _ _ _ (search rules) ∙ c.quad_to.ensures) (c.settle.ensures _ _)
