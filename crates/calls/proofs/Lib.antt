@@ -3,3 +3,4 @@ pub mod Opening
 pub mod Admission
 pub mod Opened
 pub mod Largest
+pub mod Refused

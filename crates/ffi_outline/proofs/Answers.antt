@@ -7,6 +7,7 @@ use borrow.Author.Tests.{eq-eqb, ne_eqb}
 use lib.ListN.{length}
 use lib.Ieee.{Float}
 use Rattle.geometry.specs.declared.Point.{Point}
+use Rattle.std.proofs.Common.{Option, Some, None}
 use Rattle.stream.specs.declared.Builder.{Builder}
 use Rattle.stream.specs.declared.Need.{Need}
 use Rattle.stream.specs.Stream.{is_empty, need_of}
@@ -16,7 +17,8 @@ use Rattle.calls.specs.Calls.{entries_of}
 use Rattle.shape.specs.declared.RoundSuperellipse.{RoundSuperellipse}
 use Rattle.contour.specs.Entries.{outline_entries}
 use Rattle.ffi_shape.specs.Layout.{shape_at}
-use Rattle.ffi_path.specs.Lent.{builder_at, fitting, Left, left}
+use Rattle.ffi_path.specs.Lent.{builder_at, record_in, Left, left}
+use Rattle.ffi_path.proofs.Lending.{record_is, no_record}
 use Rattle.ffi_outline.specs.Outlines.{outlined, add_of, needed, numbers_of, outline_need_of, conic_need_of}
 
 module _ (shape : List Float) (counts : List ℕ) (places : List Float) (vs : List ℕ) (fs : List Float) where
@@ -33,12 +35,12 @@ pub outline_needs : (shape : List Float) (old : List ℕ) (s : RoundSuperellipse
 unfolding outline_need_of
 outline_needs shape old s n l e f es en el = rw (eq-eqb (length shape) 89 e, eq-eqb (length old) 2 f, ← es, ← en, el)
 
-module _ (counts : List ℕ) (places : List Float) (ctrl to : Point) (weight : Float) (old : List ℕ) (t : Bool) (e : length old ≡ 2) (fit : t ≡ fitting (length counts) (length places)) where
-  pub wrong_record : t ≡ false → needed 100 old ≡ conic_need_of counts places ctrl to weight old
+module _ (counts : List ℕ) (places : List Float) (ctrl to : Point) (weight : Float) (old : List ℕ) (r : Option Builder) (e : length old ≡ 2) (loaded : r ≡ record_in counts places) where
+  pub wrong_record : r ≡ None → needed 100 old ≡ conic_need_of counts places ctrl to weight old
   unfolding conic_need_of
-  wrong_record h = rw (eq-eqb (length old) 2 e, ← fit, h)
+  wrong_record h = rw (eq-eqb (length old) 2 e, no_record counts places r loaded h)
 
-  pub conic_needs : (b : Builder) (n : Need) (l : List ℕ) → t ≡ true → b ≡ builder_at counts places → n ≡ need_of (elements_of (entries_of (is_empty b) b.pen (ConicTo ctrl to weight))) → l ≡ numbers_of n
+  pub conic_needs : (b : Builder) (n : Need) (l : List ℕ) → r ≡ Some b → n ≡ need_of (elements_of (entries_of (is_empty b) b.pen (ConicTo ctrl to weight))) → l ≡ numbers_of n
       → needed 0 l ≡ conic_need_of counts places ctrl to weight old
   unfolding conic_need_of
-  conic_needs b n l h eb en el = rw (eq-eqb (length old) 2 e, ← fit, h, ← eb, ← en, el)
+  conic_needs b n l h en el = let k = record_is counts places b r loaded h in rw (eq-eqb (length old) 2 e, k.fits, ← k.builder, ← en, el)

@@ -10,7 +10,9 @@ ghost use Rattle.ffi_path.specs.Lent.{left};
 ghost use Rattle.ffi_outline.specs.Outlines.{add_of, needed, numbers_of, outline_need_of, conic_need_of, consistency_of};
 
 use calls::Call;
+use ffi_path::WRONG_LENGTH;
 use geometry::Point;
+use lowering::Written;
 use stream::Need;
 
 const SIZES_LENGTH: usize = 12;
@@ -18,8 +20,6 @@ const SIZES_LENGTH: usize = 12;
 const SHAPE_LENGTH: usize = 89;
 
 const NEED_LENGTH: usize = 2;
-
-const WRONG_LENGTH: u32 = 100;
 
 // Draws the outline of a shape behind what the record holds: 0, 1 or 5. It has no joint word.
 pub fn shackletongue_add_to(
@@ -34,12 +34,11 @@ pub fn shackletongue_add_to(
     if shape.len() != SHAPE_LENGTH {
         return WRONG_LENGTH;
     }
-    if ffi_path::lengths_fit(counts.len(), places.len()) {
-        let s = ffi_shape::shape_at(shape);
-        let a = outline::add_to(s, ffi_path::load(counts, places), verbs, points);
-        return ffi_path::settle_plain(counts, places, a);
-    }
-    WRONG_LENGTH
+    let Some(b) = ffi_path::load(counts, places) else {
+        return WRONG_LENGTH;
+    };
+    let a = outline::add_to(ffi_shape::shape_at(shape), b, verbs, points);
+    ffi_path::settle(counts, places, a.map(Written::from))
 }
 
 fn store_need(need: &mut [u64], n: Need)
@@ -80,13 +79,12 @@ pub fn shackletongue_conic_need(
     if need.len() != NEED_LENGTH {
         return WRONG_LENGTH;
     }
-    if ffi_path::lengths_fit(counts.len(), places.len()) {
-        let b = ffi_path::load(counts, places);
-        let call = Call::ConicTo(Point { x: cx, y: cy }, Point { x, y }, weight);
-        store_need(need, calls::need(b, call));
-        return 0;
-    }
-    WRONG_LENGTH
+    let Some(held) = ffi_path::load(counts, places) else {
+        return WRONG_LENGTH;
+    };
+    let call = Call::ConicTo(Point { x: cx, y: cy }, Point { x, y }, weight);
+    store_need(need, calls::need(held, call));
+    0
 }
 
 // 1 where no center of the shape lies outside the bounds and every point of its outline is finite, else

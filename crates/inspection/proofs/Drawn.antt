@@ -9,11 +9,12 @@ use lib.Seq.{drop-cons}
 use borrow.Author.Tests.{le-leb}
 use lib.Ieee.{Float, nan}
 use lib.Ieee.Scale.{finite}
+use Rattle.std.proofs.Common.{Result, Ok, Err}
 use Rattle.stream.specs.declared.Builder.{Builder}
 use Rattle.stream.specs.Stream.{State, state, fresh_builder, sizes_of}
 use Rattle.lowering.specs.Entries.{elements_of}
-use Rattle.calls.specs.declared.Built.{Built}
-use Rattle.calls.specs.declared.Built.TheVariants.{Done, BadRecord, NoRoom}
+use Rattle.calls.specs.declared.BuildError.{BuildError}
+use Rattle.calls.specs.declared.BuildError.TheVariants.{BadRecord, NoRoom}
 use Rattle.calls.specs.Calls.{Outcome, outcome_of}
 use Rattle.shape.specs.declared.RoundSuperellipse.{RoundSuperellipse}
 use Rattle.contour.specs.Entries.{outline_entries}
@@ -26,20 +27,9 @@ use Rattle.building.proofs.Seven.{seven}
 use Rattle.contour.proofs.Turns.{outline_told}
 use Rattle.inspection.specs.Inspection.{all_finite, finite_outline}
 
--- ---- floats one by one
-
-module _ (s : List Float) (i : ℕ) where
-  pub one_more : i < length s → finite (get_or s i nan) ≡ true → all_finite (drop i s) ≡ all_finite (drop (suc i) s)
-  unfolding all_finite
-  one_more h e = rw (drop-cons s i nan, e)
-
-  pub no_more : i < length s → finite (get_or s i nan) ≡ false → all_finite (drop i s) ≡ false
-  unfolding all_finite
-  no_more h e = rw (drop-cons s i nan, e)
-
-  pub at-end : length s ≤ i → all_finite (drop i s) ≡ true
-  unfolding all_finite
-  at-end h = rw (drop_of_length-le s h)
+-- an outline drawn on a record that is fresh
+pub fresh_step : (b : Builder) (vs : List ℕ) (fs : List Float) (shape : RoundSuperellipse) {o : Outcome} → b ≡ fresh_builder → o ≡ step (state b vs fs) (AddTo shape) → o ≡ step (state fresh_builder vs fs) (AddTo shape)
+fresh_step b vs fs shape e h = h ∙ ap (λ (x : Builder). step (state x vs fs) (AddTo shape)) e
 
 -- ---- an outline that has room
 
@@ -67,20 +57,20 @@ module _ (vs : List ℕ) (fs : List Float) (shape : RoundSuperellipse) (v : leng
       ((given_simulates seven (length vs) (length fs)).keeps s empty_book (AddTo shape) (holds_none fresh_builder vs fs (refl, refl)))
 
   -- it is never refused
-  pub never_refused : (r : Built) (vs' : List ℕ) (fs' : List Float) → ((b : Builder) → r ≡ Done b → ⊥) → outcome_of r vs' fs' ≡ step s (AddTo shape) → ⊥
-  never_refused (Done b) vs' fs' h e = h b refl
-  never_refused (BadRecord b) vs' fs' h e = let n = ap (λ (o : Outcome). o.number) e ∙ drawn-number in omega arith
-  never_refused (NoRoom b) vs' fs' h e = let n = ap (λ (o : Outcome). o.number) e ∙ drawn-number in omega arith
+  pub never_refused : (r : Result Builder BuildError) (vs' : List ℕ) (fs' : List Float) → ((b : Builder) → r ≡ Ok b → ⊥) → outcome_of r vs' fs' ≡ step s (AddTo shape) → ⊥
+  never_refused (Ok b) vs' fs' h e = h b refl
+  never_refused (Err (BadRecord b)) vs' fs' h e = let n = ap (λ (o : Outcome). o.number) e ∙ drawn-number in omega arith
+  never_refused (Err (NoRoom b)) vs' fs' h e = let n = ap (λ (o : Outcome). o.number) e ∙ drawn-number in omega arith
 
   -- its floats stand in front, and there are as many as the buffer holds at most
   pub record Drawn (b : Builder) (fs' : List Float) : Type 0 where
     pub few : 2 * b.points ≤ 4148
     pub finite : all_finite (take (2 * b.points) fs') ≡ finite_outline shape
 
-  pub drawn : (r : Built) (b : Builder) (vs' : List ℕ) (fs' : List Float) → r ≡ Done b → outcome_of r vs' fs' ≡ step s (AddTo shape) → Drawn b fs'
+  pub drawn : (r : Result Builder BuildError) (b : Builder) (vs' : List ℕ) (fs' : List Float) → r ≡ Ok b → outcome_of r vs' fs' ≡ step s (AddTo shape) → Drawn b fs'
   unfolding finite_outline
   drawn r b vs' fs' d e =
-      let t : state b vs' fs' ≡ (step s (AddTo shape)).state = ap (λ (o : Outcome). o.state) (ap (λ (x : Built). outcome_of x vs' fs') (sym d) ∙ e) in
+      let t : state b vs' fs' ≡ (step s (AddTo shape)).state = ap (λ (o : Outcome). o.state) (ap (λ (x : Result Builder BuildError). outcome_of x vs' fs') (sym d) ∙ e) in
       let h = (subst (λ (x : State). Holds (length vs) (length fs) x (grown empty_book (outline_entries shape))) (sym t) drawn_holds).holding in
       let z = (outline_told shape).sizes in
       record { few = omega (arith, h.size, z.most_points); finite = ap all_finite (ap (λ (n : ℕ). take (2 * n) fs') h.size ∙ h.floats) }

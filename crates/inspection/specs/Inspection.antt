@@ -1,5 +1,6 @@
 -- Where the outline and the touch area of a shape keep together. Definitions only.
-use Rattle.std.specs.Prelude.{List, [], ◌∷◌, Bool, true, false, cond, Float}
+use Rattle.std.specs.Prelude.{List, Bool, false, cond, Float}
+use Rattle.std.specs.List.{list_all}
 use Rattle.std.specs.Float.Ieee.{le}
 use Rattle.std.specs.Float.Ieee.Scale.{finite}
 use Rattle.geometry.specs.declared.Point.{Point}
@@ -21,9 +22,8 @@ centered b s =
     false
 
 -- every float of a list is finite
-unfoldable pub all_finite : List Float → Bool
-all_finite [] = true
-all_finite (x ∷ xs) = cond (finite x) (all_finite xs) false
+abbrev pub all_finite : List Float → Bool
+all_finite xs = list_all finite xs
 
 -- every point of a shape's outline is finite, controls included
 unfoldable pub finite_outline : RoundSuperellipse → Bool

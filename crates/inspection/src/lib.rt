@@ -6,10 +6,8 @@
 ghost use Rattle.std.specs.Prelude.{◌≡◌};
 ghost use Rattle.inspection.specs.Inspection.{within_bounds, centered, all_finite, finite_outline, consistent_of};
 
-use calls::Built;
 use geometry::Point;
 use shape::{Bounds, RoundSuperellipse};
-use stream::Builder;
 
 // The largest outline: 1,035 verbs and 2,074 points.
 const MOST_VERBS: usize = 1035;
@@ -17,44 +15,27 @@ const MOST_VERBS: usize = 1035;
 const MOST_FLOATS: usize = 4148;
 
 // A NaN is not within.
+#[tactic(auto, unfolding(crate::specs::Inspection::within_bounds))]
 fn within(bounds: Bounds, p: Point) -> bool
     ensures { result ≡ within_bounds bounds p }
 {
-    if bounds.min.x <= p.x {
-        if p.x <= bounds.max.x {
-            if bounds.min.y <= p.y {
-                return p.y <= bounds.max.y;
-            }
-        }
-    }
-    false
+    bounds.min.x <= p.x && p.x <= bounds.max.x && bounds.min.y <= p.y && p.y <= bounds.max.y
 }
 
+#[tactic(auto, unfolding(crate::specs::Inspection::centered))]
 fn is_centered(bounds: Bounds, shape: RoundSuperellipse) -> bool
     ensures { result ≡ centered bounds shape }
 {
-    if within(bounds, shape.top_right.offset) {
-        if within(bounds, shape.bottom_right.offset) {
-            if within(bounds, shape.bottom_left.offset) {
-                return within(bounds, shape.top_left.offset);
-            }
-        }
-    }
-    false
+    within(bounds, shape.top_right.offset)
+        && within(bounds, shape.bottom_right.offset)
+        && within(bounds, shape.bottom_left.offset)
+        && within(bounds, shape.top_left.offset)
 }
 
 fn are_finite(floats: &[f32]) -> bool
     ensures { result ≡ all_finite floats.now }
 {
-    let mut i = 0;
-    while i < floats.len() {
-        let finite = ieee::is_finite(floats[i]);
-        if !finite {
-            return false;
-        }
-        i += 1;
-    }
-    true
+    floats.iter().all(|x| ieee::is_finite(*x))
 }
 
 // The outline is drawn into buffers that hold the largest one, so it is never refused.
@@ -63,25 +44,16 @@ fn has_finite_outline(shape: RoundSuperellipse) -> bool
 {
     let mut verbs = [0u8; MOST_VERBS];
     let mut points = [0.0f32; MOST_FLOATS];
-    let zero = Point { x: 0.0, y: 0.0 };
-    let fresh = Builder {
-        verbs: 0,
-        points: 0,
-        start: zero,
-        pen: zero,
-    };
-    let Built::Done(b) = outline::add_to(shape, fresh, &mut verbs, &mut points) else {
+    let Ok(b) = outline::add_to(shape, stream::new(), &mut verbs, &mut points) else {
         return false;
     };
     are_finite(&points[..2 * b.points])
 }
 
 // Of a shape and the bounds that it was made for.
+#[tactic(auto, unfolding(crate::specs::Inspection::consistent_of))]
 pub fn is_consistent(bounds: Bounds, shape: RoundSuperellipse) -> bool
     ensures { result ≡ consistent_of bounds shape }
 {
-    if is_centered(bounds, shape) {
-        return has_finite_outline(shape);
-    }
-    false
+    is_centered(bounds, shape) && has_finite_outline(shape)
 }

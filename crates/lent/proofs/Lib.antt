@@ -1,2 +1,2 @@
--- What a by-value call's answer says.
-pub mod Answered
+-- What a refusal leaves.
+pub mod Refused

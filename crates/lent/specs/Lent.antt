@@ -1,18 +1,15 @@
--- What a call over a lent record answers: document 01's number alone, since the record comes back in its place. Definitions only.
-use Rattle.std.specs.Prelude.{List, ℕ, Float}
+-- What a call over a lent record answers: nothing, or the refusal, since the record comes back in its place. Definitions only.
+use Rattle.std.specs.Prelude.{List, ℕ, Float, Result, Ok, Err, ⊤}
 use Rattle.stream.specs.declared.Builder.{Builder}
 use Rattle.stream.specs.Stream.{state}
-use Rattle.calls.specs.declared.Built.{Built}
-use Rattle.calls.specs.declared.Built.TheVariants as built
-use Rattle.calls.specs.Calls.{Outcome, outcome}
-use Rattle.lent.specs.declared.Answer.{Answer}
+use Rattle.calls.specs.declared.BuildError.{BuildError}
+use Rattle.calls.specs.Calls.{Outcome, outcome, number_of}
 
--- a by-value call's answer taken apart: its record, and 0, 1 or 5
-abbrev pub answer_of : Built → Answer
-answer_of (built.Done b) = record { builder = b; number = 0 }
-answer_of (built.BadRecord b) = record { builder = b; number = 1 }
-answer_of (built.NoRoom b) = record { builder = b; number = 5 }
+-- document 01's number of an answer, 0 where nothing is refused
+abbrev pub answer_number : Result ⊤ BuildError → ℕ
+answer_number (Ok x) = 0
+answer_number (Err e) = number_of e
 
--- a call that answered the number n, and left the lent record at b and the buffers at vs and fs; these three calls have no joint word
-abbrev pub answered : Builder → ℕ → List ℕ → List Float → Outcome
-answered b n vs fs = outcome n 0 (state b vs fs)
+-- a call that gave that answer, and left the lent record at b and the buffers at vs and fs; these three calls have no joint word
+abbrev pub answered : Builder → Result ⊤ BuildError → List ℕ → List Float → Outcome
+answered b r vs fs = outcome (answer_number r) 0 (state b vs fs)

@@ -1,10 +1,12 @@
 -- A closed triangle as a list of building calls, and what is seen of a list of calls: every answer and the state behind the last. Definitions only.
-use Rattle.std.specs.Prelude.{List, [], ◌∷◌, ℕ, Float}
+use Rattle.std.specs.Prelude.{List, [], ◌∷◌, ℕ, Float, Result, ⊤}
 use Rattle.geometry.specs.declared.Point.{Point}
 use Rattle.stream.specs.Stream.{State, state}
 use Rattle.calls.specs.declared.Call.{Call}
 use Rattle.calls.specs.declared.Call.TheVariants as call
+use Rattle.calls.specs.declared.BuildError.{BuildError}
 use Rattle.calls.specs.Calls.{step}
+use Rattle.lent.specs.Lent.{answer_number}
 use Rattle.lists.specs.Simulation.{run, answers}
 use Rattle.lists.specs.Book.{Reply, reply, building}
 use Rattle.triangle.specs.declared.Drawn.{Drawn}
@@ -21,9 +23,13 @@ pub record Trace : Type 0 where
 unfoldable pub trace_of : State → List Call → Trace
 trace_of s cs = record { replies = answers (building step) s cs; state = run (building step) s cs }
 
--- the same of a triangle drawn, which left the buffers at vs and fs; its calls have no joint word
+-- what a call over a lent record answered, which has no joint word
+abbrev pub told : Result ⊤ BuildError → Reply
+told r = reply (answer_number r) 0
+
+-- the same of a triangle drawn, which left the buffers at vs and fs
 abbrev pub drawn : Drawn → List ℕ → List Float → Trace
 drawn d vs fs = record {
-  replies = reply d.moved 0 ∷ reply d.second 0 ∷ reply d.third 0 ∷ reply d.closed 0 ∷ [];
+  replies = told d.moved ∷ told d.second ∷ told d.third ∷ told d.closed ∷ [];
   state = state d.builder vs fs;
 }

@@ -7,17 +7,18 @@ ghost use Rattle.std.specs.Prelude.{◌≡◌};
 ghost use Rattle.stream.specs.Stream.{state};
 ghost use Rattle.triangle.specs.Triangle.{sides, trace_of, drawn};
 
+use calls::BuildError;
 use geometry::Point;
 use stream::Builder;
 
-// The record behind the four calls, and the number that each answered.
+// The record behind the four calls, and what each answered.
 #[derive(Drop)]
 pub struct Drawn {
     pub builder: Builder,
-    pub moved: u8,
-    pub second: u8,
-    pub third: u8,
-    pub closed: u8,
+    pub moved: Result<(), BuildError>,
+    pub second: Result<(), BuildError>,
+    pub third: Result<(), BuildError>,
+    pub closed: Result<(), BuildError>,
 }
 
 pub fn triangle(

@@ -1,10 +1,12 @@
 use mathlib.Core.Path.{ap, ◌∙◌}
+use Rattle.std.proofs.Common.{rules}
+use Rattle.calls.proofs.Opened.{no_word}
 use Rattle.stream.specs.Stream.{State, state}
 use Rattle.shape.specs.declared.RoundSuperellipse.{RoundSuperellipse}
 use Rattle.outline.specs.declared.BuildingCall.TheVariants.{AddTo}
 use Rattle.outline.specs.Step.{step}
 use Rattle.ffi_shape.specs.Layout.{shape_at}
-use Rattle.ffi_path.proofs.Lending.{fitting-is, lent, wrong_lengths}
+use Rattle.ffi_path.proofs.Lending.{record_is, lent, wrong_lengths}
 use Rattle.ffi_outline.proofs.Answers.{no_shape, drawn}
 use Rattle.ffi_outline.proofs.shackletongue_add_to.Goals as goal
 
@@ -13,19 +15,18 @@ returns-then-shape-ne-SHAPE_LENGTH c =
     let a = c.args in
     no_shape a.shape.now a.counts.now a.places.now a.verbs.now a.points.now c.if-shape-ne-SHAPE_LENGTH.true
 
-pub load-requires : goal.load-requires
-load-requires c = fitting-is _ _ _ c.lengths_fit.ensures c.if-lengths_fit.true
-
-pub settle_plain-requires : goal.settle_plain-requires
-settle_plain-requires c = fitting-is _ _ _ c.lengths_fit.ensures c.if-lengths_fit.true
-
-pub returns-then-lengths_fit : goal.returns-then-lengths_fit
-returns-then-lengths_fit c =
+pub returns-in_default : goal.returns-in_default
+returns-in_default c =
     let a = c.args in
-    let o = c.add_to-a.ensures ∙ ap (λ (x : RoundSuperellipse). step (state c.load.result a.verbs.now a.points.now) (AddTo x)) c.shape_at-s.ensures in
-    drawn a.shape.now a.counts.now a.places.now a.verbs.now a.points.now _ c.if-shape-ne-SHAPE_LENGTH.false (lent (λ (s : State). step s (AddTo (shape_at a.shape.now))) a.counts.now a.places.now a.verbs.now a.points.now _ c.lengths_fit.ensures _ _ _ c.if-lengths_fit.true c.load.ensures o (c.settle_plain.ensures _ _))
+    drawn a.shape.now a.counts.now a.places.now a.verbs.now a.points.now _ c.if-shape-ne-SHAPE_LENGTH.false (wrong_lengths (λ (s : State). step s (AddTo (shape_at a.shape.now))) a.counts.now a.places.now a.verbs.now a.points.now _ c.load.ensures (search rules))
+
+pub settle-requires : goal.settle-requires
+settle-requires c =
+    let k = record_is _ _ _ _ c.load.ensures c.in-Some.is in
+    (k.counted, k.placed)
 
 pub returns : goal.returns
 returns c =
     let a = c.args in
-    drawn a.shape.now a.counts.now a.places.now a.verbs.now a.points.now _ c.if-shape-ne-SHAPE_LENGTH.false (wrong_lengths (λ (s : State). step s (AddTo (shape_at a.shape.now))) a.counts.now a.places.now a.verbs.now a.points.now _ c.lengths_fit.ensures c.if-lengths_fit.false)
+    let o = no_word c.add_to-a.result _ _ _ (search rules) ∙ c.add_to-a.ensures ∙ ap (λ (x : RoundSuperellipse). step (state c.in-Some.b a.verbs.now a.points.now) (AddTo x)) c.shape_at.ensures in
+    drawn a.shape.now a.counts.now a.places.now a.verbs.now a.points.now _ c.if-shape-ne-SHAPE_LENGTH.false (lent (λ (s : State). step s (AddTo (shape_at a.shape.now))) a.counts.now a.places.now a.verbs.now a.points.now _ c.load.ensures _ _ _ c.in-Some.is o (c.settle.ensures _ _))

@@ -36,4 +36,4 @@ returns c =
     let j = c.line_to-third in
     let e = c.close-closed in
     followed (state a.b a.verbs.now a.points.now) (state m.new.b m.new.verbs m.new.points) (state i.new.b i.new.verbs i.new.points) (state j.new.b j.new.verbs j.new.points) (state e.new.b e.new.verbs e.new.points)
-    a.p a.q a.r m.result i.result j.result e.result m.ensures i.ensures j.ensures e.ensures
+    a.p a.q a.r _ _ _ _ m.ensures.outcome i.ensures.outcome j.ensures.outcome e.ensures.outcome
