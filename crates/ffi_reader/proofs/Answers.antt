@@ -6,24 +6,23 @@ use Prim.Native.Nat.{ℕ, ◌≤◌}
 use native.Mathlib.Omega.{arith}
 use lib.ListN.{length, set}
 use lib.Ieee.{Float}
+use Rattle.std.proofs.Common.{Option, Some, None, Result, Ok}
 use Rattle.geometry.specs.declared.Point.{Point}
 use Rattle.stream.specs.declared.Builder.{Builder}
 use Rattle.stream.specs.declared.Element.{Element}
 use Rattle.stream.specs.Stream.{state, put, verb_of, floats_of}
 use Rattle.reader.specs.declared.Segment.{Segment}
 use Rattle.reader.specs.declared.Cursor.{Cursor}
-use Rattle.reader.specs.declared.Extent.{Extent}
-use Rattle.reader.specs.declared.Reading.{Reading}
-use Rattle.reader.specs.declared.Reading.TheVariants as reading
-use Rattle.reader.specs.declared.Bounded.{Bounded}
-use Rattle.reader.specs.declared.Bounded.TheVariants as bounded
-use Rattle.reader.specs.Reading.{Answer, ok, Item, item_of, segment_of, answer_of, read_at}
-use Rattle.reader.specs.Bounds.{bounds_of, bounds_answer}
+use Rattle.reader.specs.declared.Rect.{Rect}
+use Rattle.reader.specs.declared.ReadError.{ReadError}
+use Rattle.reader.specs.declared.ReadError.TheVariants.{BadRecord, Malformed}
+use Rattle.reader.specs.Reading.{Answer, ok, refused, Item, item_of, segment_of, number_of, refusal_of, answer_of, read_at}
+use Rattle.reader.specs.Bounds.{bounds_of}
 use Rattle.reader.proofs.Parts.{item-is}
 use Rattle.ffi_shape.specs.Layout.{point_floats}
 use Rattle.ffi_shape.proofs.Storing.{grown}
-use Rattle.ffi_path.specs.Lent.{builder_at, fitting}
-use Rattle.ffi_path.proofs.Lending.{filled}
+use Rattle.ffi_path.specs.Lent.{record_in}
+use Rattle.ffi_path.proofs.Lending.{filled, record_is, no_record}
 use Rattle.ffi_reader.specs.Segments.{Read, read, cursor_numbers, cursor_at, read_by, read_of, Boxed, boxed, box_by, box_of}
 
 -- ---- points stored one behind the other
@@ -44,35 +43,42 @@ pub stored : (l : List Float) (s : Segment) (d : Cursor) (cs : List ℕ) (k : El
 unfolding read_by
 stored l s d cs k m e q = ap (λ (y : List Float). read 0 (cursor_numbers d (verb_of k)) y) q ∙ ap (λ (i : Item). read_by (ok i) cs l) (sym (ap (λ (y : Segment). item_of y d) e ∙ item-is k d))
 
-pub item-read : (a : Reading) (s : Segment) (d : Cursor) (n : ℕ) (cs cs' : List ℕ) (l m : List Float) → a ≡ reading.Item s d → read 0 (cursor_numbers d n) m ≡ read_by (ok (item_of s d)) cs l → cs' ≡ cursor_numbers d n
+pub item-read : (a : Result (Segment × Cursor) ReadError) (s : Segment) (d : Cursor) (n : ℕ) (cs cs' : List ℕ) (l m : List Float) → a ≡ Ok (s, d) → read 0 (cursor_numbers d n) m ≡ read_by (ok (item_of s d)) cs l → cs' ≡ cursor_numbers d n
     → read 0 cs' m ≡ read_by (answer_of a) cs l
-item-read a s d n cs cs' l m e h q = ap (λ (x : List ℕ). read 0 x m) q ∙ h ∙ ap (λ (y : Reading). read_by (answer_of y) cs l) (sym e)
+item-read a s d n cs cs' l m e h q = ap (λ (x : List ℕ). read 0 x m) q ∙ h ∙ ap (λ (y : Result (Segment × Cursor) ReadError). read_by (answer_of y) cs l) (sym e)
 
-pub found : (a : Bounded) (x : Extent) (rs : List Float) (ps : List ℕ) (b : Boxed) → a ≡ bounded.Found x → b ≡ box_by (ok x) rs ps → b ≡ box_by (bounds_answer a) rs ps
-found a x rs ps b e h = h ∙ ap (λ (y : Bounded). box_by (bounds_answer y) rs ps) (sym e)
+pub unread_as : (e : ReadError) (n : ℕ) (cs : List ℕ) (l : List Float) → n ≡ number_of e → read n cs l ≡ read_by (refused (refusal_of e)) cs l
+unfolding read_by
+unread_as (BadRecord b) n cs l h = rw h
+unread_as (Malformed i) n cs l h = rw h
 
-pub malformed : (a : Bounded) (i : ℕ) (rs : List Float) (ps : List ℕ) → length ps ≡ 1 → a ≡ bounded.Malformed i → boxed 6 rs (set ps 0 i) ≡ box_by (bounds_answer a) rs ps
+pub malformed : (e : ReadError) (n i : ℕ) (rs : List Float) (ps : List ℕ) → length ps ≡ 1 → e ≡ Malformed i → n ≡ number_of e → boxed n rs (set ps 0 i) ≡ box_by (refused (refusal_of e)) rs ps
 unfolding box_by
-malformed a i rs ps h e = ap (λ (x : List ℕ). boxed 6 rs x) (filled ps (i ∷ []) h) ∙ ap (λ (y : Bounded). box_by (bounds_answer y) rs ps) (sym e)
+malformed e n i rs ps h q k =
+    ap (λ (x : ℕ). boxed x rs (set ps 0 i)) (k ∙ ap number_of q) ∙ ap (λ (x : List ℕ). boxed 6 rs x) (filled ps (i ∷ []) h) ∙ ap (λ (y : ReadError). box_by (refused (refusal_of y)) rs ps) (sym q)
+
+pub unsuited : (e : ReadError) (n : ℕ) (rs : List Float) (ps : List ℕ) → ((i : ℕ) → e ≡ Malformed i → ⊥) → n ≡ number_of e → boxed n rs ps ≡ box_by (refused (refusal_of e)) rs ps
+unfolding box_by
+unsuited (BadRecord b) n rs ps h k = rw k
+unsuited (Malformed i) n rs ps h k = absurd (h i refl)
 
 -- ---- slices of the right length
 
-module _ (counts : List ℕ) (places : List Float) (vs : List ℕ) (fs : List Float) (t : Bool) (fit : t ≡ fitting (length counts) (length places)) where
+module _ (counts : List ℕ) (places : List Float) (vs : List ℕ) (fs : List Float) (r : Option Builder) (loaded : r ≡ record_in counts places) where
   module _ (cs : List ℕ) (old : List Float) (ec : length cs ≡ 3) (eo : length old ≡ 6) where
-    pub unread : t ≡ false → read 100 cs old ≡ read_of counts places vs fs cs old
+    pub unread : r ≡ None → read 100 cs old ≡ read_of counts places vs fs cs old
     unfolding read_of
-    unread h = rw (ec, eo, ← fit, h)
+    unread h = rw (ec, eo, no_record counts places r loaded h)
 
-    pub read_as : (b : Builder) (c : Cursor) (a : Answer Item) (l : Read) → t ≡ true → b ≡ builder_at counts places → c ≡ cursor_at cs → a ≡ read_at (state b vs fs) c → l ≡ read_by a cs old
-        → l ≡ read_of counts places vs fs cs old
+    pub read_as : (b : Builder) (c : Cursor) (a : Answer Item) (l : Read) → r ≡ Some b → c ≡ cursor_at cs → a ≡ read_at (state b vs fs) c → l ≡ read_by a cs old → l ≡ read_of counts places vs fs cs old
     unfolding read_of
-    read_as b c a l h eb ed ea el = rw (ec, eo, ← fit, h, ← eb, ← ed, ← ea, el)
+    read_as b c a l h ed ea el = let k = record_is counts places b r loaded h in rw (ec, eo, k.fits, ← k.builder, ← ed, ← ea, el)
 
   module _ (rs : List Float) (ps : List ℕ) (er : length rs ≡ 4) (ep : length ps ≡ 1) where
-    pub unboxed : t ≡ false → boxed 100 rs ps ≡ box_of counts places vs fs rs ps
+    pub unboxed : r ≡ None → boxed 100 rs ps ≡ box_of counts places vs fs rs ps
     unfolding box_of
-    unboxed h = rw (er, ep, ← fit, h)
+    unboxed h = rw (er, ep, no_record counts places r loaded h)
 
-    pub boxed_as : (b : Builder) (a : Answer Extent) (l : Boxed) → t ≡ true → b ≡ builder_at counts places → a ≡ bounds_of (state b vs fs) → l ≡ box_by a rs ps → l ≡ box_of counts places vs fs rs ps
+    pub boxed_as : (b : Builder) (a : Answer (Option Rect)) (l : Boxed) → r ≡ Some b → a ≡ bounds_of (state b vs fs) → l ≡ box_by a rs ps → l ≡ box_of counts places vs fs rs ps
     unfolding box_of
-    boxed_as b a l h eb ea el = rw (er, ep, ← fit, h, ← eb, ← ea, el)
+    boxed_as b a l h ea el = let k = record_is counts places b r loaded h in rw (er, ep, k.fits, ← k.builder, ← ea, el)

@@ -1,11 +1,9 @@
 -- What the exported functions that read a path answer: the segment at a cursor, and the box. Record, cursor, segment and box stand in lent numbers.
 -- Definitions only.
-use Rattle.std.specs.Prelude.{cond, ◌&&◌, List, [], ◌∷◌, ℕ, length, get_or, eqb, Float}
+use Rattle.std.specs.Prelude.{cond, ◌&&◌, List, [], ◌∷◌, ℕ, length, get_or, eqb, Float, Option, Some, None}
 use Rattle.stream.specs.Stream.{state, put, verb_of, floats_of}
 use Rattle.reader.specs.declared.Cursor.{Cursor}
 use Rattle.reader.specs.declared.Rect.{Rect}
-use Rattle.reader.specs.declared.Extent.{Extent}
-use Rattle.reader.specs.declared.Extent.TheVariants.{Empty, Box}
 use Rattle.reader.specs.Reading.{Answer, ok, refused, with_record, at_verb, Item, item, end, cursor, read_at}
 use Rattle.reader.specs.Bounds.{bounds_of}
 use Rattle.ffi_path.specs.Lent.{builder_at, fitting, wrong_length}
@@ -62,9 +60,9 @@ unfoldable pub rect_floats : Rect → List Float
 rect_floats r = r.min.x ∷ r.min.y ∷ r.max.x ∷ r.max.y ∷ []
 
 -- a box replaces the old one; a verb that is refused leaves its index
-unfoldable pub box_by : Answer Extent → List Float → List ℕ → Boxed
-box_by (ok Empty) rs ps = boxed none rs ps
-box_by (ok (Box r)) rs ps = boxed 0 (rect_floats r) ps
+unfoldable pub box_by : Answer (Option Rect) → List Float → List ℕ → Boxed
+box_by (ok None) rs ps = boxed none rs ps
+box_by (ok (Some r)) rs ps = boxed 0 (rect_floats r) ps
 box_by (refused (with_record n b)) rs ps = boxed n rs ps
 box_by (refused (at_verb n v)) rs ps = boxed n rs (v ∷ [])
 

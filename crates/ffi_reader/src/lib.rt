@@ -8,7 +8,8 @@ ghost use Rattle.reader.specs.Reading.{ok, item_of, answer_of};
 ghost use Rattle.reader.specs.Bounds.{bounds_answer};
 ghost use Rattle.ffi_reader.specs.Segments.{read, cursor_numbers, cursor_at, read_by, read_of, boxed, rect_floats, box_by, box_of};
 
-use reader::{Bounded, Cursor, Extent, Reading, Rect, Segment};
+use ffi_path::WRONG_LENGTH;
+use reader::{Cursor, ReadError, Rect, Segment};
 
 const CURSOR_LENGTH: usize = 3;
 
@@ -17,8 +18,6 @@ const SEGMENT_LENGTH: usize = 6;
 const RECT_LENGTH: usize = 4;
 
 const PLACE_LENGTH: usize = 1;
-
-const WRONG_LENGTH: u32 = 100;
 
 const NONE: u32 = 101;
 
@@ -72,18 +71,21 @@ fn cursor_at(cursor: &[u64]) -> Cursor
 }
 
 // The number of a reading. What was read goes to the lent numbers.
-fn settle_reading(cursor: &mut [u64], segment: &mut [f32], a: Reading) -> u32
+fn settle_reading(
+    cursor: &mut [u64],
+    segment: &mut [f32],
+    a: Result<(Segment, Cursor), ReadError>,
+) -> u32
     requires { (length cursor.old ≡ 3) × (length segment.old ≡ 6) }
     ensures { read result cursor.new segment.new ≡ read_by (answer_of a) cursor.old segment.old }
 {
     match a {
-        Reading::Item(s, next) => {
+        Ok((s, next)) => {
             let kind = store_segment(segment, s);
             store_cursor(cursor, next, kind);
             0
         }
-        Reading::BadRecord(_) => 1,
-        Reading::Malformed(_) => 6,
+        Err(e) => u32::from(e.number()),
     }
 }
 
@@ -105,12 +107,11 @@ pub fn shackletongue_read(
     if segment.len() != SEGMENT_LENGTH {
         return WRONG_LENGTH;
     }
-    if ffi_path::lengths_fit(counts.len(), places.len()) {
-        let b = ffi_path::load(counts, places);
-        let a = reader::read(b, verbs, points, cursor_at(cursor));
-        return settle_reading(cursor, segment, a);
-    }
-    WRONG_LENGTH
+    let Some(b) = ffi_path::load(counts, places) else {
+        return WRONG_LENGTH;
+    };
+    let a = reader::read(b, verbs, points, cursor_at(cursor));
+    settle_reading(cursor, segment, a)
 }
 
 fn store_rect(rect: &mut [f32], r: Rect)
@@ -123,30 +124,22 @@ fn store_rect(rect: &mut [f32], r: Rect)
     rect[3] = r.max.y;
 }
 
-// The number of an extent. A box goes to the lent floats.
-fn settle_extent(rect: &mut [f32], e: Extent) -> u32
-    requires { length rect.old ≡ 4 }
-    ensures { (ps : List ℕ) → boxed result rect.new ps ≡ box_by (ok e) rect.old ps }
-{
-    match e {
-        Extent::Empty => NONE,
-        Extent::Box(r) => {
-            store_rect(rect, r);
-            0
-        }
-    }
-}
-
-fn settle_box(rect: &mut [f32], place: &mut [u64], a: Bounded) -> u32
+// The number of a box, or of none. A box goes to the lent floats.
+fn settle_box(rect: &mut [f32], place: &mut [u64], a: Result<Option<Rect>, ReadError>) -> u32
     requires { (length rect.old ≡ 4) × (length place.old ≡ 1) }
     ensures { boxed result rect.new place.new ≡ box_by (bounds_answer a) rect.old place.old }
 {
     match a {
-        Bounded::Found(e) => settle_extent(rect, e),
-        Bounded::BadRecord(_) => 1,
-        Bounded::Malformed(at) => {
-            place[0] = at as u64;
-            6
+        Ok(Some(r)) => {
+            store_rect(rect, r);
+            0
+        }
+        Ok(None) => NONE,
+        Err(e) => {
+            if let ReadError::Malformed(at) = e {
+                place[0] = at as u64;
+            }
+            u32::from(e.number())
         }
     }
 }
@@ -169,9 +162,8 @@ pub fn shackletongue_box(
     if place.len() != PLACE_LENGTH {
         return WRONG_LENGTH;
     }
-    if ffi_path::lengths_fit(counts.len(), places.len()) {
-        let b = ffi_path::load(counts, places);
-        return settle_box(rect, place, reader::bounds(b, verbs, points));
-    }
-    WRONG_LENGTH
+    let Some(b) = ffi_path::load(counts, places) else {
+        return WRONG_LENGTH;
+    };
+    settle_box(rect, place, reader::bounds(b, verbs, points))
 }

@@ -18,7 +18,8 @@ use Rattle.reader.specs.declared.Segment.{Segment}
 use Rattle.reader.specs.declared.Segment.TheVariants as segment
 use Rattle.reader.specs.Reading.{Answer, ok, Item, item, end, item_of, segment_of, point_at, element_at, read_at, part_of, part_at, floats_from, floats_at}
 use Rattle.reader.proofs.Reader.{View, bad, past, malformed, found, view, byte_at}
-use Rattle.reader.specs.declared.Extent.{Extent}
+use Rattle.std.proofs.Common.{Option}
+use Rattle.reader.specs.declared.Rect.{Rect}
 use Rattle.reader.specs.Bounds.{include_element, include_segment}
 use Rattle.reader.proofs.Folds.{next_of, fold_item}
 
@@ -116,7 +117,7 @@ element_rest (suc (suc (suc zero))) fs p a b c d = absurd (d refl)
 element_rest (suc (suc (suc (suc n)))) fs p a b c d = refl
 
 -- a segment widens an extent as its element does
-pub include_is : (e : Extent) (k : Segment) (d : Cursor) → include_segment e k ≡ fold_item include_element e (item_of k d)
+pub include_is : (e : Option Rect) (k : Segment) (d : Cursor) → include_segment e k ≡ fold_item include_element e (item_of k d)
 unfolding include_segment
 include_is e (segment.Move p) d = refl
 include_is e (segment.Line p) d = refl

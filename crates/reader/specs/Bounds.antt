@@ -1,48 +1,45 @@
 -- The least box round the points of all segments, controls included: points not finite are passed over, and of equal values the earlier stays.
 -- Definitions only.
-use Rattle.std.specs.Prelude.{List, [], ◌∷◌, cond}
+use Rattle.std.specs.Prelude.{List, [], ◌∷◌, cond, Option, Some, None, Result, Ok, Err}
 use Rattle.ieee.specs.Basic.{min_of, max_of}
 use Rattle.geometry.specs.declared.Point.{Point}
 use Rattle.geometry.specs.Point.{finite_point}
 use Rattle.stream.specs.declared.Element.{Element}
 use Rattle.reader.specs.declared.Segment.{Segment}
-use Rattle.reader.specs.declared.Extent.{Extent}
-use Rattle.reader.specs.declared.Extent.TheVariants.{Empty, Box}
-use Rattle.reader.specs.declared.Bounded.{Bounded}
-use Rattle.reader.specs.declared.Bounded.TheVariants as bounded
+use Rattle.reader.specs.declared.Rect.{Rect}
+use Rattle.reader.specs.declared.ReadError.{ReadError}
 use Rattle.stream.specs.Stream.{State, points_of}
-use Rattle.reader.specs.Reading.{Answer, ok, refused, with_record, at_verb, Item, item, end, item_of, cursor, read_all, fold_read}
+use Rattle.reader.specs.Reading.{Answer, ok, refused, refusal_of, Item, item, end, item_of, cursor, read_all, fold_read}
 
--- the extent with a finite point more
-unfoldable pub widen_of : Extent → Point → Extent
-widen_of Empty p = Box (record { min = p; max = p })
-widen_of (Box r) p = Box (record {
+-- the box of the points seen, if any, with a finite one more
+unfoldable pub widen_of : Option Rect → Point → Option Rect
+widen_of None p = Some (record { min = p; max = p })
+widen_of (Some r) p = Some (record {
   min = record { x = min_of r.min.x p.x; y = min_of r.min.y p.y };
   max = record { x = max_of r.max.x p.x; y = max_of r.max.y p.y };
 })
 
-unfoldable pub include_of : Extent → Point → Extent
+unfoldable pub include_of : Option Rect → Point → Option Rect
 include_of e p = cond (finite_point p) (widen_of e p) e
 
-unfoldable pub include_all : Extent → List Point → Extent
+unfoldable pub include_all : Option Rect → List Point → Option Rect
 include_all e [] = e
 include_all e (p ∷ ps) = include_all (include_of e p) ps
 
-abbrev pub include_element : Extent → Element → Extent
+abbrev pub include_element : Option Rect → Element → Option Rect
 include_element e k = include_all e (points_of k)
 
 -- a segment that was read is an element, or the end, which has no points
-abbrev pub include_item : Extent → Item → Extent
+abbrev pub include_item : Option Rect → Item → Option Rect
 include_item e (item k d) = include_element e k
 include_item e (end d) = e
 
-unfoldable pub include_segment : Extent → Segment → Extent
+unfoldable pub include_segment : Option Rect → Segment → Option Rect
 include_segment e s = include_item e (item_of s (cursor 0 0))
 
-unfoldable pub bounds_of : State → Answer Extent
-bounds_of s = fold_read include_element Empty (read_all s)
+unfoldable pub bounds_of : State → Answer (Option Rect)
+bounds_of s = fold_read include_element None (read_all s)
 
-abbrev pub bounds_answer : Bounded → Answer Extent
-bounds_answer (bounded.Found e) = ok e
-bounds_answer (bounded.BadRecord b) = refused (with_record 1 b)
-bounds_answer (bounded.Malformed i) = refused (at_verb 6 i)
+abbrev pub bounds_answer : Result (Option Rect) ReadError → Answer (Option Rect)
+bounds_answer (Ok x) = ok x
+bounds_answer (Err e) = refused (refusal_of e)

@@ -1,6 +1,6 @@
 -- Reading a stream, one segment at a cursor or all of it. Each answer enum has here document 01's number and values for each of its cases.
 -- Definitions only.
-use Rattle.std.specs.Prelude.{◌≡◌, List, [], ◌∷◌, cond, ◌||◌, ℕ, zero, suc, ◌+◌, ◌-◌, ◌*◌, get_or, leb, ltb, Float}
+use Rattle.std.specs.Prelude.{◌≡◌, List, [], ◌∷◌, cond, ◌||◌, ℕ, zero, suc, ◌+◌, ◌-◌, ◌*◌, get_or, leb, ltb, Float, Result, Ok, Err}
 use Rattle.std.proofs.Math.Seq.{slice}
 use Rattle.std.specs.Float.{nan}
 use Rattle.geometry.specs.declared.Point.{Point}
@@ -10,8 +10,8 @@ use Rattle.stream.specs.declared.Element.TheVariants.{Move, Line, Quad, Cubic, C
 use Rattle.reader.specs.declared.Segment.{Segment}
 use Rattle.reader.specs.declared.Segment.TheVariants as segment
 use Rattle.reader.specs.declared.Cursor.{Cursor}
-use Rattle.reader.specs.declared.Reading.{Reading}
-use Rattle.reader.specs.declared.Reading.TheVariants as reading
+use Rattle.reader.specs.declared.ReadError.{ReadError}
+use Rattle.reader.specs.declared.ReadError.TheVariants.{BadRecord, Malformed}
 use Rattle.stream.specs.Stream.{State, floats_of, point_count, bad_state}
 
 -- ---- answers
@@ -45,10 +45,18 @@ item_of (segment.Cubic p q r) c = item (Cubic p q r) c
 item_of segment.Close c = item Close c
 item_of segment.End c = end c
 
-abbrev pub answer_of : Reading → Answer Item
-answer_of (reading.Item s c) = ok (item_of s c)
-answer_of (reading.BadRecord b) = refused (with_record 1 b)
-answer_of (reading.Malformed i) = refused (at_verb 6 i)
+-- a refusal of the code: document 01's number, and what it returns with it
+abbrev pub number_of : ReadError → ℕ
+number_of (BadRecord b) = 1
+number_of (Malformed i) = 6
+
+abbrev pub refusal_of : ReadError → Refusal
+refusal_of (BadRecord b) = with_record (number_of (BadRecord b)) b
+refusal_of (Malformed i) = at_verb (number_of (Malformed i)) i
+
+abbrev pub answer_of : Result (Segment × Cursor) ReadError → Answer Item
+answer_of (Ok x) = ok (item_of x.0 x.1)
+answer_of (Err e) = refused (refusal_of e)
 
 -- ---- one segment
 

@@ -5,10 +5,11 @@
 
 ghost use Rattle.std.specs.Prelude.{◌≡◌, ◌+◌, ◌-◌, ◌*◌, ◌≤◌, length};
 ghost use Rattle.stream.specs.Stream.{point_count, state};
-ghost use Rattle.reader.specs.Reading.{point_at, element_at, segment_of, read_at, answer_of, part_at, floats_at};
+ghost use Rattle.reader.specs.Reading.{point_at, element_at, segment_of, number_of, read_at, answer_of, part_at, floats_at};
 ghost use Rattle.reader.specs.Bounds.{widen_of, include_of, include_segment, bounds_of, bounds_answer};
 
 use geometry::Point;
+use std::fmt;
 use stream::Builder;
 
 // A place in a stream.
@@ -28,14 +29,34 @@ pub enum Segment {
     End,
 }
 
-#[derive(Drop)]
-pub enum Reading {
-    // The segment and the next cursor.
-    Item(Segment, Cursor),
-    // Cause 1, with the same record.
+// The refusal of a reading.
+#[derive(Clone, Copy)]
+pub enum ReadError {
+    // Cause 1, with the same record: it does not suit the buffers.
     BadRecord(Builder),
-    // Cause 6, with the verb's index.
+    // Cause 6, with the verb's index: no such verb, or too few points for it.
     Malformed(usize),
+}
+
+impl ReadError {
+    // Document 01's number.
+    pub fn number(self) -> u8
+        ensures { result ≡ number_of self }
+    {
+        match self {
+            ReadError::BadRecord(_) => 1,
+            ReadError::Malformed(_) => 6,
+        }
+    }
+}
+
+impl fmt::Display for ReadError {
+    fn fmt<W: fmt::Write>(&self, f: &mut fmt::Formatter<W>) -> fmt::Result {
+        match self {
+            ReadError::BadRecord(_) => f.write_str("the record does not suit the buffers"),
+            ReadError::Malformed(verb) => write!(f, "verb {verb} cannot be read"),
+        }
+    }
 }
 
 fn point_at(points: &[f32], at: usize) -> Point
@@ -66,49 +87,43 @@ fn segment_at(verb: u8, points: &[f32], at: usize) -> Segment
     }
 }
 
-// How many of `held` points there are from `at` on.
-fn points_left(held: usize, at: usize) -> usize
-    ensures { result ≡ held - at }
-{
-    if at <= held {
-        return held - at;
-    }
-    0
-}
-
-pub fn read(b: Builder, verbs: &[u8], points: &[f32], c: Cursor) -> Reading
+// The segment at c and the next cursor.
+pub fn read(
+    b: Builder,
+    verbs: &[u8],
+    points: &[f32],
+    c: Cursor,
+) -> Result<(Segment, Cursor), ReadError>
     ensures { answer_of result ≡ read_at (state b verbs.now points.now) c }
 {
     if stream::bad_record(b, verbs.len(), points.len()) {
-        return Reading::BadRecord(b);
+        return Err(ReadError::BadRecord(b));
     }
     let at = c.verb;
     let p = c.point;
     if b.verbs <= at {
-        return Reading::Item(Segment::End, c);
+        return Ok((Segment::End, c));
     }
     let v = verbs[at];
     if 4 < v {
-        return Reading::Malformed(at);
+        return Err(ReadError::Malformed(at));
     }
     let k = stream::point_count(v);
-    if points_left(b.points, p) < k {
-        return Reading::Malformed(at);
+    if b.points.saturating_sub(p) < k {
+        return Err(ReadError::Malformed(at));
     }
-    Reading::Item(
-        segment_at(v, points, p),
-        Cursor {
-            verb: at + 1,
-            point: p + k,
-        },
-    )
+    let next = Cursor {
+        verb: at + 1,
+        point: p + k,
+    };
+    Ok((segment_at(v, points, p), next))
 }
 
 // The part of the lent floats that the segment at c consumes: no copy.
 pub fn read_points<'a>(b: Builder, verbs: &[u8], points: &'a [f32], c: Cursor) -> &'a [f32]
     ensures { (result.now ≡ part_at (state b verbs.now points.now) c) × (result.now ≡ floats_at (state b verbs.now points.now) c) }
 {
-    let Reading::Item(_, next) = read(b, verbs, points, c) else {
+    let Ok((_, next)) = read(b, verbs, points, c) else {
         return &points[..0];
     };
     let p = c.point;
@@ -125,31 +140,16 @@ pub struct Rect {
     pub max: Point,
 }
 
-// The least box round the points that were seen.
-#[derive(Drop)]
-pub enum Extent {
-    Empty,
-    Box(Rect),
-}
-
-#[derive(Drop)]
-pub enum Bounded {
-    Found(Extent),
-    // Cause 1, with the same record.
-    BadRecord(Builder),
-    // Cause 6, with the verb's index.
-    Malformed(usize),
-}
-
-fn widen(e: Extent, p: Point) -> Extent
-    ensures { result ≡ widen_of e p }
+// The box of the points that were seen, if there were any, with one more.
+fn widen(seen: Option<Rect>, p: Point) -> Option<Rect>
+    ensures { result ≡ widen_of seen p }
 {
-    match e {
-        Extent::Empty => Extent::Box(Rect { min: p, max: p }),
-        Extent::Box(r) => {
+    match seen {
+        None => Some(Rect { min: p, max: p }),
+        Some(r) => {
             let min = r.min;
             let max = r.max;
-            Extent::Box(Rect {
+            Some(Rect {
                 min: Point {
                     x: ieee::min(min.x, p.x),
                     y: ieee::min(min.y, p.y),
@@ -163,44 +163,44 @@ fn widen(e: Extent, p: Point) -> Extent
     }
 }
 
-// The extent with one point more. A point that is not finite is passed over.
-fn include(e: Extent, p: Point) -> Extent
-    ensures { result ≡ include_of e p }
+// A point that is not finite is passed over.
+fn include(seen: Option<Rect>, p: Point) -> Option<Rect>
+    ensures { result ≡ include_of seen p }
 {
     if geometry::is_finite(p) {
-        return widen(e, p);
+        return widen(seen, p);
     }
-    e
+    seen
 }
 
-fn include_segment(e: Extent, s: Segment) -> Extent
-    ensures { result ≡ include_segment e s }
+fn include_segment(seen: Option<Rect>, s: Segment) -> Option<Rect>
+    ensures { result ≡ include_segment seen s }
 {
     match s {
-        Segment::Move(p) => include(e, p),
-        Segment::Line(p) => include(e, p),
-        Segment::Quad(p, q) => include(include(e, p), q),
-        Segment::Cubic(p, q, r) => include(include(include(e, p), q), r),
-        Segment::Close => e,
-        Segment::End => e,
+        Segment::Move(p) => include(seen, p),
+        Segment::Line(p) => include(seen, p),
+        Segment::Quad(p, q) => include(include(seen, p), q),
+        Segment::Cubic(p, q, r) => include(include(include(seen, p), q), r),
+        Segment::Close => seen,
+        Segment::End => seen,
     }
 }
 
-// The least box round the points of all segments, controls included.
-pub fn bounds(b: Builder, verbs: &[u8], points: &[f32]) -> Bounded
+// The least box round the points of all segments, controls included, if there are any that are finite.
+pub fn bounds(b: Builder, verbs: &[u8], points: &[f32]) -> Result<Option<Rect>, ReadError>
     ensures { bounds_answer result ≡ bounds_of (state b verbs.now points.now) }
 {
     if stream::bad_record(b, verbs.len(), points.len()) {
-        return Bounded::BadRecord(b);
+        return Err(ReadError::BadRecord(b));
     }
-    let mut extent = Extent::Empty;
+    let mut seen = None;
     let mut c = Cursor { verb: 0, point: 0 };
     while c.verb < b.verbs {
-        let Reading::Item(segment, next) = read(b, verbs, points, c) else {
-            return Bounded::Malformed(c.verb);
+        let Ok((segment, next)) = read(b, verbs, points, c) else {
+            return Err(ReadError::Malformed(c.verb));
         };
-        extent = include_segment(extent, segment);
+        seen = include_segment(seen, segment);
         c = next;
     }
-    Bounded::Found(extent)
+    Ok(seen)
 }

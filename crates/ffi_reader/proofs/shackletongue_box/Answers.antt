@@ -1,5 +1,5 @@
 use borrow.Author.Tests.{ne_eqb}
-use Rattle.ffi_path.proofs.Lending.{fitting-is}
+use Rattle.std.proofs.Common.{rules}
 use Rattle.ffi_reader.proofs.Answers.{unboxed, boxed_as}
 use Rattle.ffi_reader.specs.Segments.{box_of}
 use Rattle.ffi_reader.proofs.shackletongue_box.Goals as goal
@@ -12,15 +12,12 @@ pub returns-then-place-ne-PLACE_LENGTH : goal.returns-then-place-ne-PLACE_LENGTH
 unfolding box_of
 returns-then-place-ne-PLACE_LENGTH c = rw (c.if-rect-ne-RECT_LENGTH.false, ne_eqb _ _ c.if-place-ne-PLACE_LENGTH.true)
 
-pub load-b-requires : goal.load-b-requires
-load-b-requires c = fitting-is _ _ _ c.lengths_fit.ensures c.if-lengths_fit.true
-
-pub returns-then-lengths_fit : goal.returns-then-lengths_fit
-returns-then-lengths_fit c =
+pub returns-in_default : goal.returns-in_default
+returns-in_default c =
     let a = c.args in
-    boxed_as a.counts.now a.places.now a.verbs.now a.points.now _ c.lengths_fit.ensures a.rect.now a.place.now c.if-rect-ne-RECT_LENGTH.false c.if-place-ne-PLACE_LENGTH.false _ _ _ c.if-lengths_fit.true c.load-b.ensures c.bounds.ensures c.settle_box.ensures
+    unboxed a.counts.now a.places.now a.verbs.now a.points.now _ c.load.ensures a.rect.now a.place.now c.if-rect-ne-RECT_LENGTH.false c.if-place-ne-PLACE_LENGTH.false (search rules)
 
 pub returns : goal.returns
 returns c =
     let a = c.args in
-    unboxed a.counts.now a.places.now a.verbs.now a.points.now _ c.lengths_fit.ensures a.rect.now a.place.now c.if-rect-ne-RECT_LENGTH.false c.if-place-ne-PLACE_LENGTH.false c.if-lengths_fit.false
+    boxed_as a.counts.now a.places.now a.verbs.now a.points.now _ c.load.ensures a.rect.now a.place.now c.if-rect-ne-RECT_LENGTH.false c.if-place-ne-PLACE_LENGTH.false _ _ _ c.in-Some.is c.bounds.ensures c.settle_box.ensures

@@ -1,5 +1,5 @@
 use borrow.Author.Tests.{ne_eqb}
-use Rattle.ffi_path.proofs.Lending.{fitting-is}
+use Rattle.std.proofs.Common.{rules}
 use Rattle.ffi_reader.proofs.Answers.{unread, read_as}
 use Rattle.ffi_reader.specs.Segments.{read_of}
 use Rattle.ffi_reader.proofs.shackletongue_read.Goals as goal
@@ -12,15 +12,12 @@ pub returns-then-segment-ne-SEGMENT_LENGTH : goal.returns-then-segment-ne-SEGMEN
 unfolding read_of
 returns-then-segment-ne-SEGMENT_LENGTH c = rw (c.if-cursor-ne-CURSOR_LENGTH.false, ne_eqb _ _ c.if-segment-ne-SEGMENT_LENGTH.true)
 
-pub load-b-requires : goal.load-b-requires
-load-b-requires c = fitting-is _ _ _ c.lengths_fit.ensures c.if-lengths_fit.true
-
-pub returns-then-lengths_fit : goal.returns-then-lengths_fit
-returns-then-lengths_fit c =
+pub returns-in_default : goal.returns-in_default
+returns-in_default c =
     let a = c.args in
-    read_as a.counts.now a.places.now a.verbs.now a.points.now _ c.lengths_fit.ensures a.cursor.now a.segment.now c.if-cursor-ne-CURSOR_LENGTH.false c.if-segment-ne-SEGMENT_LENGTH.false _ _ _ _ c.if-lengths_fit.true c.load-b.ensures c.cursor_at.ensures c.read-a.ensures c.settle_reading.ensures
+    unread a.counts.now a.places.now a.verbs.now a.points.now _ c.load.ensures a.cursor.now a.segment.now c.if-cursor-ne-CURSOR_LENGTH.false c.if-segment-ne-SEGMENT_LENGTH.false (search rules)
 
 pub returns : goal.returns
 returns c =
     let a = c.args in
-    unread a.counts.now a.places.now a.verbs.now a.points.now _ c.lengths_fit.ensures a.cursor.now a.segment.now c.if-cursor-ne-CURSOR_LENGTH.false c.if-segment-ne-SEGMENT_LENGTH.false c.if-lengths_fit.false
+    read_as a.counts.now a.places.now a.verbs.now a.points.now _ c.load.ensures a.cursor.now a.segment.now c.if-cursor-ne-CURSOR_LENGTH.false c.if-segment-ne-SEGMENT_LENGTH.false _ _ _ _ c.in-Some.is c.cursor_at.ensures c.read-a.ensures c.settle_reading.ensures

@@ -7,7 +7,7 @@ use Rattle.reader.proofs.bounds.Given as goal
 
 -- what the loop has still to read, folded onto what it has, is the box
 abbrev pub invariant-loop-c : goal.invariant-loop-c
-invariant-loop-c l = fold_read include_element l.extent (read_from (state l.b l.verbs l.points) l.c) ≡ bounds_of (state l.b l.verbs l.points)
+invariant-loop-c l = fold_read include_element l.seen (read_from (state l.b l.verbs l.points) l.c) ≡ bounds_of (state l.b l.verbs l.points)
 
 abbrev pub decreases-loop-c : goal.decreases-loop-c
 decreases-loop-c l = l.b.verbs - l.c.verb

@@ -30,21 +30,21 @@ returns-then-v-gt4 c =
     let a = c.args in
     read-high (state a.b a.verbs.now a.points.now) a.c (sym c.bad_record.ensures ∙ c.if-bad_record.false) c.if-b-at.false c.if-v-gt4.true
 
-pub returns-then-points_left-k : goal.returns-then-points_left-k
-returns-then-points_left-k c =
+pub returns-then-saturating_sub-k : goal.returns-then-saturating_sub-k
+returns-then-saturating_sub-k c =
     let a = c.args in
-    let l = rw (c.points_left.ensures, c.point_count-k.ensures) at c.if-points_left-k.true in
+    let l = rw (c.saturating_sub.ensures, c.point_count-k.ensures) at c.if-saturating_sub-k.true in
     read_short (state a.b a.verbs.now a.points.now) a.c (sym c.bad_record.ensures ∙ c.if-bad_record.false) c.if-b-at.false c.if-v-gt4.false l
 
 pub segment_at-requires : goal.segment_at-requires
 segment_at-requires c =
     let a = c.args in
-    omega (arith, c.points_left.ensures, c.point_count-k.ensures, c.if-points_left-k.false, good_record a.b (length a.verbs.now) (length a.points.now) (sym c.bad_record.ensures ∙ c.if-bad_record.false))
+    omega (arith, c.saturating_sub.ensures, c.point_count-k.ensures, c.if-saturating_sub-k.false, good_record a.b (length a.verbs.now) (length a.points.now) (sym c.bad_record.ensures ∙ c.if-bad_record.false))
 
 pub returns : goal.returns
 returns c =
     let a = c.args in
-    let l = rw (c.points_left.ensures, c.point_count-k.ensures) at c.if-points_left-k.false in
+    let l = rw (c.saturating_sub.ensures, c.point_count-k.ensures) at c.if-saturating_sub-k.false in
     ap₂ (λ (x : Segment) (k : ℕ). ok (item_of x (cursor (a.c.verb + 1) (a.c.point + k)))) c.segment_at.ensures c.point_count-k.ensures
     ∙ ap ok (item-is _ _)
     ∙ read_found (state a.b a.verbs.now a.points.now) a.c (sym c.bad_record.ensures ∙ c.if-bad_record.false) c.if-b-at.false c.if-v-gt4.false l

@@ -28,14 +28,14 @@ next_fits s c k d e h =
     let n = next_is k d in
     rw n at (within s _ _ e (rw n h))
 
-fits : (c : Then-p-q) → 2 * c.in-Item.next.point ≤ length c.args.points.now
-fits c = next_fits (state c.args.b c.args.verbs.now c.args.points.now) c.args.c c.in-Item.field-0 c.in-Item.next (sym c.in-Item.ensures) c.if-p-q.true
+fits : (c : Then-p-q) → 2 * c.in-Ok.next.point ≤ length c.args.points.now
+fits c = next_fits (state c.args.b c.args.verbs.now c.args.points.now) c.args.c c.in-Ok.field-0-0 c.in-Ok.next (sym c.in-Ok.ensures) c.if-p-q.true
 
 pub returns-in_default : goal.returns-in_default
 unfolding part_at
 returns-in_default c =
     let a = c.args in
-    let r = no_item c.read.result c.in_default.not-Item in
+    let r = no_item c.read.result c.in_default.not-Ok in
     both (state a.b a.verbs.now a.points.now) a.c (ap (part_of a.points.now a.c) (sym r.is ∙ c.read.ensures))
 
 pub overflow_mul-result : goal.overflow_mul-result
@@ -53,12 +53,12 @@ slice_bounds-result-end-then-p-q c = omega (arith, fits c)
 pub returns-then-p-q : goal.returns-then-p-q
 returns-then-p-q c =
     let a = c.args in
-    both _ _ (next_at_lem (state a.b a.verbs.now a.points.now) a.c c.in-Item.field-0 c.in-Item.next (sym c.in-Item.ensures))
+    both _ _ (next_at_lem (state a.b a.verbs.now a.points.now) a.c c.in-Ok.field-0-0 c.in-Ok.next (sym c.in-Ok.ensures))
 
 pub returns : goal.returns
 returns c =
     let a = c.args in
     let s = state a.b a.verbs.now a.points.now in
     let p = a.c.point in
-    let z : 2 * c.in-Item.next.point - 2 * p ≡ 0 = omega (arith, c.if-p-q.false) in
-    both _ _ (sym (ap (λ (n : ℕ). take n (drop (2 * p) s.floats)) z) ∙ next_at_lem s a.c c.in-Item.field-0 c.in-Item.next (sym c.in-Item.ensures))
+    let z : 2 * c.in-Ok.next.point - 2 * p ≡ 0 = omega (arith, c.if-p-q.false) in
+    both _ _ (sym (ap (λ (n : ℕ). take n (drop (2 * p) s.floats)) z) ∙ next_at_lem s a.c c.in-Ok.field-0-0 c.in-Ok.next (sym c.in-Ok.ensures))

@@ -1,10 +1,10 @@
 use Rattle.reader.specs.Bounds.{widen_of}
 use Rattle.reader.proofs.widen.Goals as goal
 
-pub returns-in-Empty : goal.returns-in-Empty
+pub returns-in-None : goal.returns-in-None
 unfolding widen_of
-returns-in-Empty c = rw c.in-Empty.is
+returns-in-None c = rw c.in-None.is
 
-pub returns-in-Box : goal.returns-in-Box
+pub returns-in-Some : goal.returns-in-Some
 unfolding widen_of
-returns-in-Box c = rw (c.in-Box.is, ← c.min.ensures, ← c.min-in-Box.ensures, ← c.max.ensures, ← c.max-in-Box.ensures)
+returns-in-Some c = rw (c.in-Some.is, ← c.min.ensures, ← c.min-in-Some.ensures, ← c.max.ensures, ← c.max-in-Some.ensures)
