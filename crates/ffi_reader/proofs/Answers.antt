@@ -17,13 +17,13 @@ use Rattle.reader.specs.declared.Rect.{Rect}
 use Rattle.reader.specs.declared.ReadError.{ReadError}
 use Rattle.reader.specs.declared.ReadError.TheVariants.{BadRecord, Malformed}
 use Rattle.reader.specs.Reading.{Answer, ok, refused, Item, item_of, segment_of, number_of, refusal_of, answer_of, read_at}
-use Rattle.reader.specs.Bounds.{bounds_of}
+use Rattle.reader.specs.Bounds.{bounds_of, bounds_answer}
 use Rattle.reader.proofs.Parts.{item-is}
 use Rattle.ffi_shape.specs.Layout.{point_floats}
 use Rattle.ffi_shape.proofs.Storing.{grown}
 use Rattle.ffi_path.specs.Lent.{record_in}
 use Rattle.ffi_path.proofs.Lending.{filled, record_is, no_record}
-use Rattle.ffi_reader.specs.Segments.{Read, read, cursor_numbers, cursor_at, read_by, read_of, Boxed, boxed, box_by, box_of}
+use Rattle.ffi_reader.specs.Segments.{Read, read, cursor_numbers, cursor_at, read_by, read_of, Boxed, boxed, rect_floats, box_by, box_of}
 
 -- ---- points stored one behind the other
 
@@ -51,6 +51,17 @@ pub unread_as : (e : ReadError) (n : ℕ) (cs : List ℕ) (l : List Float) → n
 unfolding read_by
 unread_as (BadRecord b) n cs l h = rw h
 unread_as (Malformed i) n cs l h = rw h
+
+pub found : (a : Result (Option Rect) ReadError) (x : Option Rect) (rs : List Float) (ps : List ℕ) (b : Boxed) → a ≡ Ok x → b ≡ box_by (ok x) rs ps → b ≡ box_by (bounds_answer a) rs ps
+found a x rs ps b e h = h ∙ ap (λ (y : Result (Option Rect) ReadError). box_by (bounds_answer y) rs ps) (sym e)
+
+pub boxed_in : (r : Rect) (rs l : List Float) (ps : List ℕ) → l ≡ rect_floats r → boxed 0 l ps ≡ box_by (ok (Some r)) rs ps
+unfolding box_by
+boxed_in r rs l ps h = rw h
+
+pub boxed_none : (rs : List Float) (ps : List ℕ) → boxed 101 rs ps ≡ box_by (ok None) rs ps
+unfolding box_by
+boxed_none rs ps = refl
 
 pub malformed : (e : ReadError) (n i : ℕ) (rs : List Float) (ps : List ℕ) → length ps ≡ 1 → e ≡ Malformed i → n ≡ number_of e → boxed n rs (set ps 0 i) ≡ box_by (refused (refusal_of e)) rs ps
 unfolding box_by

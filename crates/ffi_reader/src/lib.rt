@@ -136,10 +136,12 @@ fn settle_box(rect: &mut [f32], place: &mut [u64], a: Result<Option<Rect>, ReadE
         }
         Ok(None) => NONE,
         Err(e) => {
-            if let ReadError::Malformed(at) = e {
-                place[0] = at as u64;
-            }
-            u32::from(e.number())
+            let number = u32::from(e.number());
+            let ReadError::Malformed(at) = e else {
+                return number;
+            };
+            place[0] = at as u64;
+            number
         }
     }
 }
