@@ -1,6 +1,6 @@
 // The lines that are written, as docs/REPLAY.md has them.
 use geometry::Point;
-use reader::{Cursor, Reading, Segment};
+use reader::{Cursor, Segment};
 use std::io;
 use stream::Builder;
 
@@ -19,11 +19,8 @@ pub fn write_word(rt: &impl Print, word: &[u8]) -> io::Result<()> {
     write_line(rt, &mut out, n)
 }
 
-// A refusal; nothing of 0, which is none.
+// A refusal.
 pub fn write_number(rt: &impl Print, number: u8) -> io::Result<()> {
-    if number == 0 {
-        return Ok(());
-    }
     let mut out = [0u8; 64];
     let n = text::put(&mut out, 0, b"refused ");
     let n = text::put_decimal(&mut out, n, number as u64);
@@ -78,29 +75,22 @@ fn write_segment(rt: &impl Print, s: Segment) -> io::Result<()> {
     }
 }
 
-fn is_end(s: Segment) -> bool {
-    match s {
-        Segment::End => true,
-        _ => false,
-    }
-}
-
 // The segments from cursor (0, 0), and whether the stream ends behind them. A good record holds no
 // more verbs than are lent.
 fn write_segments(rt: &impl Print, b: Builder, verbs: &[u8], points: &[f32]) -> io::Result<bool> {
     let mut c = Cursor { verb: 0, point: 0 };
-    let mut i = 0;
-    while i <= verbs.len() {
-        let Reading::Item(segment, next) = reader::read(b, verbs, points, c) else {
-            write_number(rt, 1)?;
-            return Ok(false);
-        };
-        if is_end(segment) {
-            return Ok(true);
+    for _ in 0..=verbs.len() {
+        match reader::read(b, verbs, points, c) {
+            Err(e) => {
+                write_number(rt, e.number())?;
+                return Ok(false);
+            }
+            Ok((Segment::End, _)) => return Ok(true),
+            Ok((segment, next)) => {
+                write_segment(rt, segment)?;
+                c = next;
+            }
         }
-        write_segment(rt, segment)?;
-        c = next;
-        i += 1;
     }
     Ok(true)
 }

@@ -6,7 +6,7 @@
 
 mod lines;
 
-use calls::Built;
+use calls::BuildError;
 use geometry::Point;
 use std::io;
 use stream::Builder;
@@ -17,19 +17,16 @@ enum Face {
     Lent,
 }
 
-fn refused(rt: &impl Print, b: Builder, number: u8) -> io::Result<Builder> {
-    lines::write_number(rt, number)?;
-    Ok(b)
-}
-
-fn answered(rt: &impl Print, a: Built) -> io::Result<Builder> {
+fn answered(rt: &impl Print, a: Result<Builder, BuildError>) -> io::Result<Builder> {
     match a {
-        Built::Done(b) => {
+        Ok(b) => {
             lines::write_counts(rt, b)?;
             Ok(b)
         }
-        Built::BadRecord(b) => refused(rt, b, 1),
-        Built::NoRoom(b) => refused(rt, b, 5),
+        Err(e) => {
+            lines::write_number(rt, e.number())?;
+            Ok(e.builder())
+        }
     }
 }
 
@@ -69,10 +66,11 @@ fn over_lent(
     r: Point,
 ) -> io::Result<Builder> {
     let d = triangle::triangle(b, verbs, points, p, q, r);
-    lines::write_number(rt, d.moved)?;
-    lines::write_number(rt, d.second)?;
-    lines::write_number(rt, d.third)?;
-    lines::write_number(rt, d.closed)?;
+    for a in [d.moved, d.second, d.third, d.closed] {
+        if let Err(e) = a {
+            lines::write_number(rt, e.number())?;
+        }
+    }
     Ok(d.builder)
 }
 
@@ -104,11 +102,9 @@ fn draw(
 ) -> io::Result<()> {
     let mut held = b;
     let mut x = -1.75;
-    let mut i = 0u8;
-    while i < 4 {
+    for _ in 0..4u8 {
         held = draw_at(rt, face, held, verbs, points, x)?;
         x = x + 1.5;
-        i += 1;
     }
     lines::write_stream(rt, held, verbs, points)
 }

@@ -1,8 +1,9 @@
 // The replies to what a line asks.
-use calls::ConicBuilt;
+use calls::BuildError;
 use geometry::Point;
+use lowering::Written;
 use outline::BuildingCall;
-use reader::{Bounded, Extent, Reading};
+use reader::{Cursor, ReadError, Rect, Segment};
 use replies::Reply;
 use shape::Answer;
 use std::io;
@@ -18,35 +19,36 @@ pub fn write(rt: &impl Print, reply: Reply) -> io::Result<()> {
     Ok(())
 }
 
-fn of_reading(r: Reading) -> Reply {
-    match r {
-        Reading::Item(s, next) => Reply::Read(s, next),
-        Reading::BadRecord(_) => Reply::Refused(1),
-        Reading::Malformed(v) => Reply::Malformed(v as u64),
-    }
-}
-
-pub fn write_reading(rt: &impl Print, r: Reading) -> io::Result<()> {
-    write(rt, of_reading(r))
-}
-
-fn of_extent(e: Extent) -> Reply {
+fn of_refusal(e: ReadError) -> Reply {
     match e {
-        Extent::Empty => Reply::Empty,
-        Extent::Box(r) => Reply::Box(r),
+        ReadError::BadRecord(_) => Reply::Refused(1),
+        ReadError::Malformed(v) => Reply::Malformed(v as u64),
     }
 }
 
-fn of_bounded(b: Bounded) -> Reply {
-    match b {
-        Bounded::Found(e) => of_extent(e),
-        Bounded::BadRecord(_) => Reply::Refused(1),
-        Bounded::Malformed(v) => Reply::Malformed(v as u64),
-    }
+pub fn write_refusal(rt: &impl Print, e: ReadError) -> io::Result<()> {
+    write(rt, of_refusal(e))
 }
 
-pub fn write_bounded(rt: &impl Print, b: Bounded) -> io::Result<()> {
-    write(rt, of_bounded(b))
+pub fn write_reading(rt: &impl Print, a: Result<(Segment, Cursor), ReadError>) -> io::Result<()> {
+    write(
+        rt,
+        match a {
+            Ok((s, next)) => Reply::Read(s, next),
+            Err(e) => of_refusal(e),
+        },
+    )
+}
+
+pub fn write_box(rt: &impl Print, a: Result<Option<Rect>, ReadError>) -> io::Result<()> {
+    write(
+        rt,
+        match a {
+            Ok(Some(r)) => Reply::Box(r),
+            Ok(None) => Reply::Empty,
+            Err(e) => of_refusal(e),
+        },
+    )
 }
 
 // Only a conic's reply has a joint word.
@@ -58,19 +60,19 @@ fn of_done(call: BuildingCall, b: Builder, word: u64) -> Reply {
 }
 
 // The answer of a call, and the record that it gives back.
-pub fn write_built(rt: &impl Print, call: BuildingCall, a: ConicBuilt) -> io::Result<Builder> {
+pub fn write_built(
+    rt: &impl Print,
+    call: BuildingCall,
+    a: Result<Written, BuildError>,
+) -> io::Result<Builder> {
     match a {
-        ConicBuilt::Done(b, word) => {
-            write(rt, of_done(call, b, word))?;
-            Ok(b)
+        Ok(w) => {
+            write(rt, of_done(call, w.builder, w.word))?;
+            Ok(w.builder)
         }
-        ConicBuilt::BadRecord(b) => {
-            write(rt, Reply::Refused(1))?;
-            Ok(b)
-        }
-        ConicBuilt::NoRoom(b) => {
-            write(rt, Reply::Refused(5))?;
-            Ok(b)
+        Err(e) => {
+            write(rt, Reply::Refused(e.number() as u64))?;
+            Ok(e.builder())
         }
     }
 }

@@ -3,7 +3,7 @@ use crate::answers;
 use geometry::Point;
 use items::Item;
 use outline::BuildingCall;
-use reader::{Cursor, Reading, Segment};
+use reader::{Cursor, Segment};
 use replies::Reply;
 use shape::{Answer, RoundSuperellipse};
 use std::io;
@@ -57,26 +57,23 @@ fn bad_line(rt: &impl Print, s: Session) -> io::Result<Session> {
     Ok(s)
 }
 
-fn is_end(s: Segment) -> bool {
-    if let Segment::End = s { true } else { false }
-}
-
 // The segments from cursor (0, 0), and whether the stream ends behind them. A good record holds no
 // more verbs than are lent.
 fn write_segments(rt: &impl Print, b: Builder, verbs: &[u8], floats: &[f32]) -> io::Result<bool> {
     let mut c = Cursor { verb: 0, point: 0 };
     let mut i = 0;
     while i <= verbs.len() {
-        let r = reader::read(b, verbs, floats, c);
-        let Reading::Item(segment, next) = r else {
-            answers::write_reading(rt, r)?;
-            return Ok(false);
-        };
-        if is_end(segment) {
-            return Ok(true);
+        match reader::read(b, verbs, floats, c) {
+            Err(e) => {
+                answers::write_refusal(rt, e)?;
+                return Ok(false);
+            }
+            Ok((Segment::End, _)) => return Ok(true),
+            Ok((segment, next)) => {
+                answers::write(rt, Reply::Element(segment))?;
+                c = next;
+            }
         }
-        answers::write(rt, Reply::Element(segment))?;
-        c = next;
         i += 1;
     }
     Ok(true)
@@ -117,7 +114,7 @@ fn answer(
     match q {
         Question::All => write_stream(rt, s, verbs, floats),
         Question::At(c) => answers::write_reading(rt, reader::read(s.builder, verbs, floats, c)),
-        Question::Box => answers::write_bounded(rt, reader::bounds(s.builder, verbs, floats)),
+        Question::Box => answers::write_box(rt, reader::bounds(s.builder, verbs, floats)),
     }
 }
 
