@@ -3,15 +3,15 @@
 
 #![tactic(auto)]
 
-ghost use Rattle.std.specs.Prelude.{◌≡◌, ◌+◌, ◌-◌, ◌*◌, ◌≤◌, length};
+ghost use Rattle.std.specs.Prelude.{◌≡◌, [], ◌∷◌, ◌++◌, ◌+◌, ◌-◌, ◌*◌, ◌≤◌, length};
 ghost use Rattle.stream.specs.Stream.{state, is_empty, push_all};
-ghost use Rattle.lowering.specs.Entries.{elements_of};
-ghost use Rattle.calls.specs.Calls.{opening, outcome_of, conic_outcome_of, step};
+ghost use Rattle.lowering.specs.Entries.{plain, elements_of};
+ghost use Rattle.calls.specs.Calls.{opening, attempt, outcome_of, conic_outcome_of, step};
 
 use calls::{BuildError, Call};
 use geometry::Point;
 use lowering::Written;
-use stream::{Builder, Need};
+use stream::{Builder, Element, Need};
 
 // The opening move of a builder that is empty.
 fn ensure_started(b: Builder, verbs: &mut [u8], points: &mut [f32]) -> Builder
@@ -19,9 +19,19 @@ fn ensure_started(b: Builder, verbs: &mut [u8], points: &mut [f32]) -> Builder
     ensures { state result verbs.new points.new ≡ push_all (state b verbs.old points.old) (elements_of (opening (is_empty b))) }
 {
     if b.verbs == 0 {
-        return stream::push_move(b, verbs, points, Point { x: 0.0, y: 0.0 });
+        return stream::push(b, verbs, points, Element::Move(Point { x: 0.0, y: 0.0 }));
     }
     b
+}
+
+// One element, behind the opening move of a builder that is empty.
+fn add(b: Builder, verbs: &mut [u8], points: &mut [f32], e: Element) -> Result<Builder, BuildError>
+    ensures { outcome_of result verbs.new points.new ≡ attempt (state b verbs.old points.old) (opening (is_empty b) ++ plain e ∷ []) }
+{
+    let size = e.verb().point_count() as u32;
+    calls::admit(b, verbs.len(), points.len(), calls::opened_need(b, 1, size))?;
+    let o = ensure_started(b, verbs, points);
+    Ok(stream::push(o, verbs, points, e))
 }
 
 pub fn move_to(
@@ -37,7 +47,7 @@ pub fn move_to(
         points: 1,
     };
     calls::admit(b, verbs.len(), points.len(), need)?;
-    Ok(stream::push_move(b, verbs, points, p))
+    Ok(stream::push(b, verbs, points, Element::Move(p)))
 }
 
 pub fn line_to(
@@ -48,9 +58,7 @@ pub fn line_to(
 ) -> Result<Builder, BuildError>
     ensures { outcome_of result verbs.new points.new ≡ step (state b verbs.old points.old) (Call.LineTo p) }
 {
-    calls::admit(b, verbs.len(), points.len(), calls::opened_need(b, 1, 1))?;
-    let o = ensure_started(b, verbs, points);
-    Ok(stream::push_line(o, verbs, points, p))
+    add(b, verbs, points, Element::Line(p))
 }
 
 pub fn quad_to(
@@ -62,9 +70,7 @@ pub fn quad_to(
 ) -> Result<Builder, BuildError>
     ensures { outcome_of result verbs.new points.new ≡ step (state b verbs.old points.old) (Call.QuadTo ctrl p) }
 {
-    calls::admit(b, verbs.len(), points.len(), calls::opened_need(b, 1, 2))?;
-    let o = ensure_started(b, verbs, points);
-    Ok(stream::push_quad(o, verbs, points, ctrl, p))
+    add(b, verbs, points, Element::Quad(ctrl, p))
 }
 
 pub fn cubic_to(
@@ -77,9 +83,7 @@ pub fn cubic_to(
 ) -> Result<Builder, BuildError>
     ensures { outcome_of result verbs.new points.new ≡ step (state b verbs.old points.old) (Call.CubicTo c0 c1 p) }
 {
-    calls::admit(b, verbs.len(), points.len(), calls::opened_need(b, 1, 3))?;
-    let o = ensure_started(b, verbs, points);
-    Ok(stream::push_cubic(o, verbs, points, c0, c1, p))
+    add(b, verbs, points, Element::Cubic(c0, c1, p))
 }
 
 pub fn conic_to(
@@ -106,5 +110,5 @@ pub fn close(b: Builder, verbs: &mut [u8], points: &mut [f32]) -> Result<Builder
     if b.verbs == 0 {
         return Ok(b);
     }
-    Ok(stream::push_close(b, verbs, points))
+    Ok(stream::push(b, verbs, points, Element::Close))
 }

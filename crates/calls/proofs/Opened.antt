@@ -17,7 +17,7 @@ use Rattle.stream.specs.declared.Element.{Element}
 use Rattle.stream.specs.declared.Need.{Need}
 use Rattle.stream.specs.Stream.{State, is_empty, need_of, push, push_all, size_of, sizes_of}
 use Rattle.stream.proofs.Tests.{room-is}
-use Rattle.stream.proofs.Push.{push_all-one, push_all_append, push_all-verbs, push-all_points, sizes_append, sizes-one}
+use Rattle.stream.proofs.Pushed.{push_all-one, push_all_append, push_all-verbs, push-all_points, sizes_append, sizes-one}
 use Rattle.lowering.specs.declared.Written.{Written}
 use Rattle.lowering.specs.Entries.{Entry, plain, elements_of, pieces_in, joint_word, lowered_of, plainly_written}
 use Rattle.lowering.proofs.Entries.{elements_append}

@@ -7,7 +7,7 @@ use lib.ListN.{length, length-append}
 use Rattle.geometry.specs.declared.Point.{Point}
 use Rattle.stream.specs.declared.Element.{Element}
 use Rattle.stream.specs.Stream.{State, start_of, pen_of, start_after, pen_after, sizes_of, push_all}
-use Rattle.stream.proofs.Push.{push_all_append, push_all-verbs, push-all_points, push_all-start, push_all-pen, sizes_append}
+use Rattle.stream.proofs.Pushed.{push_all_append, push_all-verbs, push-all_points, push_all-start, push_all-pen, sizes_append}
 use Rattle.lowering.specs.Entries.{Entry, elements_of}
 use Rattle.lowering.proofs.Entries.{elements_append}
 use Rattle.calls.specs.declared.Call.{Call}

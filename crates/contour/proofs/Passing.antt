@@ -12,7 +12,7 @@ use Rattle.stream.specs.declared.Element.{Element}
 use Rattle.stream.specs.declared.Element.TheVariants.{Move, Line, Close}
 use Rattle.stream.specs.declared.Need.{Need}
 use Rattle.stream.specs.Stream.{origin, sizes_of, need_of, start_after, pen_after}
-use Rattle.stream.proofs.Push.{sizes_append}
+use Rattle.stream.proofs.Pushed.{sizes_append}
 use Rattle.lowering.specs.Entries.{Entry, plain, elements_of}
 use Rattle.lowering.proofs.Entries.{elements_append}
 use Rattle.calls.specs.declared.Call.{Call}

@@ -14,7 +14,7 @@ use Rattle.conic.specs.Halving.{pieces_of}
 use Rattle.stream.specs.declared.Element.TheVariants.{Move, Line, Cubic, Close}
 use Rattle.stream.specs.declared.Need.{Need}
 use Rattle.stream.specs.Stream.{origin, sizes_of, need_of}
-use Rattle.stream.proofs.Push.{sizes_append}
+use Rattle.stream.proofs.Pushed.{sizes_append}
 use Rattle.lowering.specs.Entries.{Entry, plain, elements_of, lowered_of, LineOrQuads, one_line, quads}
 use Rattle.lowering.proofs.Entries.{elements_append, quads-length, quads-sizes, line_or_quads}
 use Rattle.calls.specs.declared.Call.{Call}

@@ -11,6 +11,7 @@ use geometry::Point;
 use std::io;
 use stream::Builder;
 
+// Stays an enum: with a closure in its place each function down to the drawing would require that it may be called.
 #[derive(Clone, Copy)]
 enum Face {
     ByValue,

@@ -12,7 +12,7 @@ use Rattle.stream.specs.declared.Element.{Element}
 use Rattle.stream.specs.declared.Element.TheVariants.{Move, Line, Quad, Cubic, Close}
 use Rattle.stream.specs.Stream.{State, is_empty, has_room, room_for, sizes_of, start_after, pen_after, push_all}
 use Rattle.stream.proofs.Tests.{and_left, and_right}
-use Rattle.stream.proofs.Push.{sizes_append, push_all-start, push_all-pen}
+use Rattle.stream.proofs.Pushed.{sizes_append, push_all-start, push_all-pen}
 use Rattle.reader.proofs.Holding.{Holding, holding_all, holding_good}
 use Rattle.lowering.specs.Entries.{Entry, elements_of, joint_word}
 use Rattle.lowering.proofs.Entries.{elements_append}

@@ -22,7 +22,7 @@ use Rattle.stream.specs.declared.Element.{Element}
 use Rattle.stream.specs.declared.Element.TheVariants.{Quad}
 use Rattle.stream.specs.Stream.{put, all_floats, State, state, push, push_all, advance_of}
 use Rattle.stream.proofs.Put.{put_one, put-after, length-put}
-use Rattle.stream.proofs.Push.{push_all-verbs, push-all_points, push_all-start, push_all-pen}
+use Rattle.stream.proofs.Pushed.{push_all-verbs, push-all_points, push_all-start, push_all-pen}
 use Rattle.stream.proofs.Past.{push_all_puts}
 use Rattle.stream.proofs.Lists.{floats_append, length_all}
 use Rattle.lowering.specs.Entries.{elements_of, quads_of, builder_at}

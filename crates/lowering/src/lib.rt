@@ -57,7 +57,7 @@ fn push_piece(
         start: ctrl,
         pen: ctrl,
     };
-    stream::push_quad(b, verbs, points, ctrl, to);
+    stream::push(b, verbs, points, Element::Quad(ctrl, to));
     Marks { count: 1, word: 1 }
 }
 
@@ -353,7 +353,7 @@ pub fn push_lowered(b: Builder, verbs: &mut [u8], points: &mut [f32], l: Lowered
 {
     match l {
         Lowered::Line(p) => {
-            let b2 = stream::push_line(b, verbs, points, p);
+            let b2 = stream::push(b, verbs, points, Element::Line(p));
             Written {
                 builder: b2,
                 word: 0,

@@ -7,7 +7,7 @@ use native.Mathlib.Omega.{arith}
 use lib.ListN.{length}
 use Rattle.stream.specs.declared.Element.{Element}
 use Rattle.stream.specs.Stream.{State, size_of, push, push_all, Fits}
-use Rattle.stream.proofs.Push.{sizes-one, push_all-one}
+use Rattle.stream.proofs.Pushed.{sizes-one, push_all-one}
 use Rattle.lowering.specs.Entries.{Entry, plain, elements_of}
 use Rattle.calls.specs.declared.Call.{Call}
 use Rattle.calls.specs.Calls.{entries_of}

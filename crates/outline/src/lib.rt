@@ -17,7 +17,7 @@ use conic::Conic;
 use corners::{Backwards, ConicArc, Corner, Corners, Forwards, Outline};
 use geometry::Point;
 use shape::RoundSuperellipse;
-use stream::{Builder, Need};
+use stream::{Builder, Element, Need};
 
 // The largest outline.
 const MOST_VERBS: usize = 1035;
@@ -25,6 +25,7 @@ const MOST_VERBS: usize = 1035;
 const MOST_POINTS: usize = 2074;
 
 // A building call as a value: the six of path.rs, and the outline of a shape.
+// Stays an enum of seven: with the six as one case that holds a calls::Call, each use of them would name two cases.
 #[derive(Clone, Copy)]
 pub enum BuildingCall {
     MoveTo(Point),
@@ -62,14 +63,24 @@ fn push_forwards(b: Builder, verbs: &mut [u8], points: &mut [f32], o: Forwards) 
 {
     let b1 = push_conic(b, verbs, points, o.first);
     let b2 = push_conic(b1, verbs, points, o.second);
-    stream::push_cubic(b2, verbs, points, o.circle.c0, o.circle.c1, o.circle.to)
+    stream::push(
+        b2,
+        verbs,
+        points,
+        Element::Cubic(o.circle.c0, o.circle.c1, o.circle.to),
+    )
 }
 
 fn push_backwards(b: Builder, verbs: &mut [u8], points: &mut [f32], o: Backwards) -> Builder
     requires { RoomAlong (state b verbs.old points.old) (calls_backwards o) }
     ensures { state result verbs.new points.new ≡ push_calls (state b verbs.old points.old) (calls_backwards o) }
 {
-    let b1 = stream::push_cubic(b, verbs, points, o.circle.c0, o.circle.c1, o.circle.to);
+    let b1 = stream::push(
+        b,
+        verbs,
+        points,
+        Element::Cubic(o.circle.c0, o.circle.c1, o.circle.to),
+    );
     let b2 = push_conic(b1, verbs, points, o.second);
     push_conic(b2, verbs, points, o.first)
 }
@@ -80,8 +91,8 @@ fn push_corner(b: Builder, verbs: &mut [u8], points: &mut [f32], corner: Corner)
 {
     match corner {
         Corner::Square(p, q) => {
-            let b1 = stream::push_line(b, verbs, points, p);
-            stream::push_line(b1, verbs, points, q)
+            let b1 = stream::push(b, verbs, points, Element::Line(p));
+            stream::push(b1, verbs, points, Element::Line(q))
         }
         Corner::Round(r) => {
             let b1 = push_forwards(b, verbs, points, r.forwards);
@@ -111,10 +122,10 @@ fn push_outline(b: Builder, verbs: &mut [u8], points: &mut [f32], o: Outline) ->
 {
     let start = o.start;
     let corners = o.corners;
-    let b1 = stream::push_move(b, verbs, points, start);
+    let b1 = stream::push(b, verbs, points, Element::Move(start));
     let b2 = push_corners(b1, verbs, points, corners);
-    let b3 = stream::push_line(b2, verbs, points, start);
-    stream::push_close(b3, verbs, points)
+    let b3 = stream::push(b2, verbs, points, Element::Line(start));
+    stream::push(b3, verbs, points, Element::Close)
 }
 
 // Buffers with room for the largest outline have room for any: only in fuller ones is the need counted.

@@ -11,7 +11,7 @@ use lib.Ieee.{Float}
 use Rattle.stream.specs.declared.Element.{Element}
 use Rattle.stream.specs.Stream.{State, verb_of, floats_of, size_of, sizes_of, point_count, bad_state, bytes_of, all_floats}
 use Rattle.stream.proofs.Tests.{good_record}
-use Rattle.stream.proofs.Push.{count_verb_lem, sizes_append, sizes-one}
+use Rattle.stream.proofs.Pushed.{count_verb_lem, sizes_append, sizes-one}
 use Rattle.reader.specs.declared.Cursor.{Cursor}
 use Rattle.reader.specs.Reading.{Answer, ok, refused, Item, item, end, cursor, element_at, read_at, prepend, follow, read_from, read_all, Reads, ends, more}
 use Rattle.reader.proofs.Reader.{View, bad, past, malformed, found, view, byte_at, read-from}

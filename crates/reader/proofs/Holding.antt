@@ -16,7 +16,7 @@ use Rattle.stream.specs.Stream.{verb_of, floats_of, bytes_of, all_floats, size_o
 use Rattle.stream.proofs.Put.{length-put, take-grown}
 use Rattle.stream.proofs.Past.{length-floats}
 use Rattle.stream.proofs.Lists.{bytes_append, floats_append, length-bytes, length_all, bytes_one, floats-one}
-use Rattle.stream.proofs.Push.{count_verb_lem, sizes_cons, sizes-one, sizes_append}
+use Rattle.stream.proofs.Pushed.{count_verb_lem, sizes_cons, sizes-one, sizes_append}
 use Rattle.reader.specs.declared.Cursor.{Cursor}
 use Rattle.reader.specs.Reading.{Answer, ok, Item, item, cursor, point_at, element_at, read_at, prepend, follow, read_from, Reads, ends, more}
 use Rattle.reader.proofs.Reader.{read_past, read_found, read-from}

@@ -4,13 +4,13 @@
 #![tactic(auto)]
 
 ghost use Rattle.std.specs.Prelude.{◌≡◌, ◌+◌, ◌-◌, ◌*◌, ◌≤◌, length};
-ghost use Rattle.stream.specs.Stream.{point_count, state};
+ghost use Rattle.stream.specs.Stream.{byte_of, point_count, state};
 ghost use Rattle.reader.specs.Reading.{point_at, element_at, segment_of, number_of, read_at, answer_of, part_at, floats_at};
 ghost use Rattle.reader.specs.Bounds.{widen_of, include_of, include_segment, bounds_of, bounds_answer};
 
 use geometry::Point;
 use std::fmt;
-use stream::Builder;
+use stream::{Builder, Verb};
 
 // A place in a stream.
 #[derive(Clone, Copy)]
@@ -70,20 +70,21 @@ fn point_at(points: &[f32], at: usize) -> Point
     }
 }
 
-fn segment_at(verb: u8, points: &[f32], at: usize) -> Segment
-    requires { 2 * point_count verb ≤ length points.now - 2 * at }
-    ensures { result ≡ segment_of (element_at verb points.now at) }
+#[tactic(auto, unfolding(stream::specs::Stream::point_count, crate::specs::Reading::element_at))]
+fn segment_at(verb: Verb, points: &[f32], at: usize) -> Segment
+    requires { 2 * point_count (byte_of verb) ≤ length points.now - 2 * at }
+    ensures { result ≡ segment_of (element_at (byte_of verb) points.now at) }
 {
     match verb {
-        0 => Segment::Move(point_at(points, at)),
-        1 => Segment::Line(point_at(points, at)),
-        2 => Segment::Quad(point_at(points, at), point_at(points, at + 1)),
-        3 => Segment::Cubic(
+        Verb::Move => Segment::Move(point_at(points, at)),
+        Verb::Line => Segment::Line(point_at(points, at)),
+        Verb::Quad => Segment::Quad(point_at(points, at), point_at(points, at + 1)),
+        Verb::Cubic => Segment::Cubic(
             point_at(points, at),
             point_at(points, at + 1),
             point_at(points, at + 2),
         ),
-        _ => Segment::Close,
+        Verb::Close => Segment::Close,
     }
 }
 
@@ -104,11 +105,10 @@ pub fn read(
     if b.verbs <= at {
         return Ok((Segment::End, c));
     }
-    let v = verbs[at];
-    if 4 < v {
+    let Ok(verb) = Verb::try_from(verbs[at]) else {
         return Err(ReadError::Malformed(at));
-    }
-    let k = stream::point_count(v);
+    };
+    let k = verb.point_count();
     if b.points.saturating_sub(p) < k {
         return Err(ReadError::Malformed(at));
     }
@@ -116,7 +116,7 @@ pub fn read(
         verb: at + 1,
         point: p + k,
     };
-    Ok((segment_at(v, points, p), next))
+    Ok((segment_at(verb, points, p), next))
 }
 
 // The part of the lent floats that the segment at c consumes: no copy.

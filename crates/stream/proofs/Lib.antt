@@ -1,6 +1,6 @@
 -- Laws of putting elements behind the held ones.
 pub mod Put
 pub mod Tests
-pub mod Push
+pub mod Pushed
 pub mod Past
 pub mod Lists

@@ -9,7 +9,7 @@ use Rattle.stream.specs.declared.Element.{Element}
 use Rattle.stream.specs.declared.Element.TheVariants.{Move, Line, Quad, Cubic, Close}
 use Rattle.stream.specs.Stream.{put, verb_of, floats_of, bytes_of, all_floats, size_of, sizes_of, advance_of, State, push, push_all}
 use Rattle.stream.proofs.Put.{length-put, put_nil, put-after}
-use Rattle.stream.proofs.Push.{sizes_cons}
+use Rattle.stream.proofs.Pushed.{sizes_cons}
 
 drop-put {ℓ} : {A : Type ℓ} (l : List A) (i m : ℕ) (vs : List A) → i ≤ length l → i + length vs ≤ m → drop m (put l i vs) ≡ drop m l
 unfolding put

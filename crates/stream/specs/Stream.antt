@@ -1,6 +1,6 @@
 -- A path in two lent buffers: a state is the record with the bytes and the floats lent. Elements are added behind the held ones, and what lies past
 -- them keeps what it had. Definitions only.
-use Rattle.std.specs.Prelude.{List, [], ◌∷◌, ◌++◌, Bool, ◌&&◌, ◌||◌, ℕ, zero, suc, ◌+◌, ◌*◌, ◌/◌, ◌≤◌, length, take, drop, leb, ltb, eqb, Float}
+use Rattle.std.specs.Prelude.{List, [], ◌∷◌, ◌++◌, Bool, ◌&&◌, ◌||◌, ℕ, zero, suc, ◌+◌, ◌*◌, ◌/◌, ◌≤◌, length, take, drop, leb, ltb, eqb, Float, Result, Ok, Err}
 use Rattle.std.specs.Float.{binary32}
 use Rattle.std.specs.Float.Ieee.{of_bits}
 use Rattle.geometry.specs.declared.Point.{Point}
@@ -8,6 +8,9 @@ use Rattle.stream.specs.declared.Builder.{Builder}
 use Rattle.stream.specs.declared.Element.{Element}
 use Rattle.stream.specs.declared.Element.TheVariants.{Move, Line, Quad, Cubic, Close}
 use Rattle.stream.specs.declared.Need.{Need}
+use Rattle.stream.specs.declared.Verb.{Verb}
+use Rattle.stream.specs.declared.Verb.TheVariants as verb
+use Rattle.stream.specs.declared.UnknownVerb.{UnknownVerb}
 
 -- l with vs from index i on
 unfoldable pub put {ℓ} : {A : Type ℓ} → List A → ℕ → List A → List A
@@ -62,6 +65,22 @@ point_count (suc zero) = 1
 point_count (suc (suc zero)) = 2
 point_count (suc (suc (suc zero))) = 3
 point_count (suc (suc (suc (suc n)))) = 0
+
+-- the byte of a verb in code, and the verb of a byte
+abbrev pub byte_of : Verb → ℕ
+byte_of verb.Move = 0
+byte_of verb.Line = 1
+byte_of verb.Quad = 2
+byte_of verb.Cubic = 3
+byte_of verb.Close = 4
+
+unfoldable pub verb_in : ℕ → Result Verb UnknownVerb
+verb_in zero = Ok verb.Move
+verb_in (suc zero) = Ok verb.Line
+verb_in (suc (suc zero)) = Ok verb.Quad
+verb_in (suc (suc (suc zero))) = Ok verb.Cubic
+verb_in (suc (suc (suc (suc zero)))) = Ok verb.Close
+verb_in (suc (suc (suc (suc (suc n))))) = Err (record { byte = suc (suc (suc (suc (suc n)))) })
 
 -- ---- the record
 

@@ -4,7 +4,7 @@
 #![tactic(auto)]
 
 ghost use Rattle.std.specs.Prelude.{◌≡◌, ◌∷◌, [], ◌+◌, ◌*◌, ◌^◌, ◌<◌, ◌≤◌, length};
-ghost use Rattle.stream.specs.Stream.{put, point_count, fresh_builder, is_empty, bad_record, has_room, advance_of, state, push};
+ghost use Rattle.stream.specs.Stream.{put, verb_in, byte_of, verb_of, size_of, floats_of, point_count, fresh_builder, is_empty, bad_record, has_room, advance_of, state, push};
 
 use geometry::Point;
 
@@ -19,14 +19,89 @@ pub struct Builder {
     pub pen: Point,
 }
 
+// The byte of each element in the buffer of verbs: 0 to 4, in this order.
+#[derive(Clone, Copy, PartialEq, Eq)]
+pub enum Verb {
+    Move,
+    Line,
+    Quad,
+    Cubic,
+    Close,
+}
+
+// A byte over 4, which is no verb.
+#[derive(Clone, Copy, PartialEq, Eq)]
+pub struct UnknownVerb {
+    pub byte: u8,
+}
+
+impl TryFrom<u8> for Verb {
+    type Error = UnknownVerb;
+
+    ghost try_from_gives = { λ byte r. r ≡ verb_in byte };
+
+    fn try_from(byte: u8) -> Result<Verb, UnknownVerb> {
+        match byte {
+            0 => Ok(Verb::Move),
+            1 => Ok(Verb::Line),
+            2 => Ok(Verb::Quad),
+            3 => Ok(Verb::Cubic),
+            4 => Ok(Verb::Close),
+            _ => Err(UnknownVerb { byte }),
+        }
+    }
+}
+
+impl Verb {
+    pub fn byte(self) -> u8
+        ensures { result ≡ byte_of self }
+    {
+        match self {
+            Verb::Move => 0,
+            Verb::Line => 1,
+            Verb::Quad => 2,
+            Verb::Cubic => 3,
+            Verb::Close => 4,
+        }
+    }
+
+    // How many points it consumes.
+    #[tactic(auto, unfolding(crate::specs::Stream::point_count))]
+    pub fn point_count(self) -> usize
+        ensures { result ≡ point_count (byte_of self) }
+    {
+        match self {
+            Verb::Move => 1,
+            Verb::Line => 1,
+            Verb::Quad => 2,
+            Verb::Cubic => 3,
+            Verb::Close => 0,
+        }
+    }
+}
+
 // What a path is made of.
-#[derive(Drop)]
+#[derive(Clone, Copy)]
 pub enum Element {
     Move(Point),
     Line(Point),
     Quad(Point, Point),
     Cubic(Point, Point, Point),
     Close,
+}
+
+impl Element {
+    pub fn verb(self) -> Verb
+        ensures { byte_of result ≡ verb_of self }
+    {
+        match self {
+            Element::Move(_) => Verb::Move,
+            Element::Line(_) => Verb::Line,
+            Element::Quad(_, _) => Verb::Quad,
+            Element::Cubic(_, _, _) => Verb::Cubic,
+            Element::Close => Verb::Close,
+        }
+    }
 }
 
 #[derive(Drop)]
@@ -86,19 +161,6 @@ pub fn has_room(b: Builder, verbs: usize, floats: usize, need: Need) -> bool
     false
 }
 
-// How many points a verb consumes.
-pub fn point_count(verb: u8) -> usize
-    ensures { result ≡ point_count verb }
-{
-    match verb {
-        0 => 1,
-        1 => 1,
-        2 => 2,
-        3 => 3,
-        _ => 0,
-    }
-}
-
 // The record after one element more.
 fn advance(b: Builder, e: Element) -> Builder
     requires { (b.verbs + 1 < 2 ^ 64) × (b.points + 3 < 2 ^ 64) }
@@ -150,66 +212,33 @@ fn put_point(points: &mut [f32], at: usize, p: Point)
     points[i + 1] = p.y;
 }
 
-// One element behind the held ones, for which there is room: one function for each kind.
-pub fn push_move(b: Builder, verbs: &mut [u8], points: &mut [f32], p: Point) -> Builder
-    requires { (b.verbs < length verbs.old) × (2 * (b.points + 1) ≤ length points.old) }
-    ensures { state result verbs.new points.new ≡ push (state b verbs.old points.old) (Element.Move p) }
+// The points of an element from point `at` on.
+fn put_points(points: &mut [f32], at: usize, e: Element)
+    requires { 2 * (at + size_of e) ≤ length points.old }
+    ensures { points.new ≡ put points.old (2 * at) (floats_of e) }
 {
-    let n = b.verbs;
-    let m = b.points;
-    verbs[n] = 0;
-    put_point(points, m, p);
-    advance(b, Element::Move(p))
+    match e {
+        Element::Move(p) => put_point(points, at, p),
+        Element::Line(p) => put_point(points, at, p),
+        Element::Quad(c, p) => {
+            put_point(points, at, c);
+            put_point(points, at + 1, p);
+        }
+        Element::Cubic(c0, c1, p) => {
+            put_point(points, at, c0);
+            put_point(points, at + 1, c1);
+            put_point(points, at + 2, p);
+        }
+        Element::Close => {}
+    }
 }
 
-pub fn push_line(b: Builder, verbs: &mut [u8], points: &mut [f32], p: Point) -> Builder
-    requires { (b.verbs < length verbs.old) × (2 * (b.points + 1) ≤ length points.old) }
-    ensures { state result verbs.new points.new ≡ push (state b verbs.old points.old) (Element.Line p) }
+// One element behind the held ones, for which there is room.
+pub fn push(b: Builder, verbs: &mut [u8], points: &mut [f32], e: Element) -> Builder
+    requires { (b.verbs < length verbs.old) × (2 * (b.points + size_of e) ≤ length points.old) }
+    ensures { state result verbs.new points.new ≡ push (state b verbs.old points.old) e }
 {
-    let n = b.verbs;
-    let m = b.points;
-    verbs[n] = 1;
-    put_point(points, m, p);
-    advance(b, Element::Line(p))
-}
-
-pub fn push_quad(b: Builder, verbs: &mut [u8], points: &mut [f32], ctrl: Point, p: Point) -> Builder
-    requires { (b.verbs < length verbs.old) × (2 * (b.points + 2) ≤ length points.old) }
-    ensures { state result verbs.new points.new ≡ push (state b verbs.old points.old) (Element.Quad ctrl p) }
-{
-    let n = b.verbs;
-    let m = b.points;
-    verbs[n] = 2;
-    put_point(points, m, ctrl);
-    put_point(points, m + 1, p);
-    advance(b, Element::Quad(ctrl, p))
-}
-
-pub fn push_cubic(
-    b: Builder,
-    verbs: &mut [u8],
-    points: &mut [f32],
-    c0: Point,
-    c1: Point,
-    p: Point,
-) -> Builder
-    requires { (b.verbs < length verbs.old) × (2 * (b.points + 3) ≤ length points.old) }
-    ensures { state result verbs.new points.new ≡ push (state b verbs.old points.old) (Element.Cubic c0 c1 p) }
-{
-    let n = b.verbs;
-    let m = b.points;
-    verbs[n] = 3;
-    put_point(points, m, c0);
-    put_point(points, m + 1, c1);
-    put_point(points, m + 2, p);
-    advance(b, Element::Cubic(c0, c1, p))
-}
-
-pub fn push_close(b: Builder, verbs: &mut [u8], points: &mut [f32]) -> Builder
-    requires { (b.verbs < length verbs.old) × (2 * b.points ≤ length points.old) }
-    ensures { state result verbs.new points.new ≡ push (state b verbs.old points.old) Element.Close }
-{
-    let n = b.verbs;
-    verbs[n] = 4;
-    advance(b, Element::Close)
+    verbs[b.verbs] = e.verb().byte();
+    put_points(points, b.points, e);
+    advance(b, e)
 }

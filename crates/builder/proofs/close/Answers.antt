@@ -3,7 +3,7 @@ use Rattle.calls.proofs.Opening.{closing_empty, closing-held}
 use Rattle.std.proofs.Common.{rules}
 use Rattle.calls.specs.Calls.{closing, entries_of, admit_of, step}
 use Rattle.lowering.specs.Entries.{plain, elements_of, pieces_in}
-use Rattle.stream.proofs.Push.{push_all-one}
+use Rattle.stream.proofs.Pushed.{push_all-one}
 use Rattle.stream.proofs.Tests.{room-is}
 use Rattle.stream.specs.Stream.{State, state, is_empty, sizes_of, push_all}
 use Rattle.stream.specs.declared.Element.TheVariants as element
@@ -28,9 +28,9 @@ returns-then-b-eq0 c =
     let e = closing_empty a.b.verbs c.if-b-eq0.true in
     rw e (done-is (state a.b a.verbs.now a.points.now) [] _ (admitted_for a.b _ _ _ _ _ [] c.close_need.ensures e c.admit.ensures c.in_ok-admit.was) refl)
 
-pub push_close-requires : goal.push_close-requires
+pub push-requires : goal.push-requires
 unfolding elements_of sizes_of
-push_close-requires c =
+push-requires c =
     let a = c.args in
     let e = closing-held a.b.verbs c.if-b-eq0.false in
     let h = admitted_for a.b _ (length a.verbs.now) (length a.points.now) _ _ (plain element.Close ∷ []) c.close_need.ensures e c.admit.ensures c.in_ok-admit.was in
@@ -42,4 +42,4 @@ returns c =
     let a = c.args in
     let s : State = state a.b a.verbs.now a.points.now in
     let e = closing-held a.b.verbs c.if-b-eq0.false in
-    rw e (done-is s (plain element.Close ∷ []) _ (admitted_for a.b _ _ _ _ _ (plain element.Close ∷ []) c.close_need.ensures e c.admit.ensures c.in_ok-admit.was) (c.push_close.ensures ∙ sym (push_all-one s _)))
+    rw e (done-is s (plain element.Close ∷ []) _ (admitted_for a.b _ _ _ _ _ (plain element.Close ∷ []) c.close_need.ensures e c.admit.ensures c.in_ok-admit.was) (c.push.ensures ∙ sym (push_all-one s _)))

@@ -1,37 +1,6 @@
-use Rattle.calls.proofs.Opened.{one-need, one-room, one-done, one-admitted, opened-refused, opened-counts}
-use Rattle.calls.proofs.Admission.{passed_on}
-use Rattle.std.proofs.Common.{rules}
 use Rattle.calls.specs.Calls.{entries_of, step}
-use Rattle.lowering.specs.Entries.{plain}
-use Rattle.stream.specs.Stream.{State, state}
-use Rattle.stream.specs.declared.Element.TheVariants.{Cubic}
-use native.Mathlib.Omega.{arith}
-use mathlib.Core.List.{[], ◌∷◌}
-use mathlib.Core.Path.{sym, ◌∙◌}
 use Rattle.builder.proofs.cubic_to.Goals as goal
-
-pub returns-in_err-admit : goal.returns-in_err-admit
-unfolding step entries_of
-returns-in_err-admit c =
-    let a = c.args in
-    let s : State = state a.b a.verbs.now a.points.now in
-    passed_on _ _ _ _ (search rules) ∙ opened-refused s (plain (Cubic a.c0 a.c1 a.p) ∷ []) _ _ (c.opened_need.ensures ∙ one-need a.b _) (sym (c.in_err-admit.was) ∙ c.admit.ensures)
-
-pub ensure_started-o-requires : goal.ensure_started-o-requires
-ensure_started-o-requires c =
-    let a = c.args in
-    omega (arith, one-room (state a.b a.verbs.now a.points.now) (Cubic a.c0 a.c1 a.p) _ _ _ c.opened_need.ensures c.admit.ensures c.in_ok-admit.was)
-
-pub push_cubic-requires : goal.push_cubic-requires
-push_cubic-requires c =
-    let a = c.args in
-    let s : State = state a.b a.verbs.now a.points.now in
-    let n = opened-counts s _ c.ensure_started-o.ensures in
-    omega (arith, one-room s (Cubic a.c0 a.c1 a.p) _ _ _ c.opened_need.ensures c.admit.ensures c.in_ok-admit.was, n.verbs, n.points, c.ensure_started-o.auto)
 
 pub returns : goal.returns
 unfolding step entries_of
-returns c =
-    let a = c.args in
-    let s : State = state a.b a.verbs.now a.points.now in
-    one-done s (Cubic a.c0 a.c1 a.p) _ _ (one-admitted s (Cubic a.c0 a.c1 a.p) _ _ _ c.opened_need.ensures c.admit.ensures c.in_ok-admit.was) c.ensure_started-o.ensures c.push_cubic.ensures
+returns c = c.add.ensures

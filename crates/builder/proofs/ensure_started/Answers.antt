@@ -5,7 +5,7 @@ use Rattle.builder.proofs.ensure_started.Goals as goal
 
 pub returns-then-b-eq0 : goal.returns-then-b-eq0
 unfolding push_all elements_of
-returns-then-b-eq0 c = rw (eq-eqb _ _ c.if-b-eq0.true) c.push_move.ensures
+returns-then-b-eq0 c = rw (eq-eqb _ _ c.if-b-eq0.true) c.push.ensures
 
 pub returns : goal.returns
 unfolding push_all elements_of

@@ -1,13 +1,13 @@
 use mathlib.Core.Path.{sym, ap, ◌∙◌}
 use native.Mathlib.Omega.{arith}
 use Rattle.stream.specs.Stream.{State, state, push_all}
-use Rattle.stream.proofs.Push.{push_all-one}
+use Rattle.stream.proofs.Pushed.{push_all-one}
 use Rattle.lowering.proofs.Entries.{lowered_line, lowered_curve}
 use Rattle.lowering.proofs.Writing.{count_is}
 use Rattle.lowering.proofs.push_lowered.Goals as goal
 
-pub push_line-b2-requires : goal.push_line-b2-requires
-push_line-b2-requires c =
+pub push-b2-requires : goal.push-b2-requires
+push-b2-requires c =
     let h = lowered_line c.args.l _ c.in-Line.is in
     omega (arith, c.requires, h.many, h.size)
 
@@ -38,7 +38,7 @@ returns-in-Line c =
     let a = c.args in
     let s : State = state a.b a.verbs.now a.points.now in
     let h = lowered_line a.l _ c.in-Line.is in
-    record { points_after = c.push_line-b2.ensures ∙ sym (ap (push_all s) h.elements ∙ push_all-one s _); word_value = sym h.word }
+    record { points_after = c.push-b2.ensures ∙ sym (ap (push_all s) h.elements ∙ push_all-one s _); word_value = sym h.word }
 
 pub returns-in-Curve : goal.returns-in-Curve
 returns-in-Curve c =

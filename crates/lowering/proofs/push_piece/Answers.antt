@@ -5,4 +5,4 @@ use Rattle.lowering.proofs.push_piece.Goals as goal
 pub returns : goal.returns
 returns c =
     let a = c.args in
-    record { points_after = quad_anywhere a.v a.p a.ctrl a.ctrl a.ctrl a.to a.verbs.now a.points.now c.push_quad.ensures; count_value = (refl, refl) }
+    record { points_after = quad_anywhere a.v a.p a.ctrl a.ctrl a.ctrl a.to a.verbs.now a.points.now c.push.ensures; count_value = (refl, refl) }

@@ -6,7 +6,7 @@ use Rattle.conic.specs.Halving.{pieces_of}
 use Rattle.conic.proofs.Flat.{flatness_tells}
 use Rattle.conic.proofs.Halving.{halve_flat}
 use Rattle.stream.specs.Stream.{State, state, push_all}
-use Rattle.stream.proofs.Push.{push_all-one}
+use Rattle.stream.proofs.Pushed.{push_all-one}
 use Rattle.lowering.specs.Entries.{builder_at}
 use Rattle.lowering.proofs.Writing.{one-quad, count_is}
 use Rattle.lowering.proofs.push_quads.Goals as goal

@@ -8,9 +8,9 @@ use Rattle.contour.proofs.Along.{room_first, room-rest, calls_join}
 use Rattle.outline.proofs.Pushed.{room-plain, calls_plain}
 use Rattle.outline.proofs.push_backwards.Goals as goal
 
-pub push_cubic-b1-requires : goal.push_cubic-b1-requires
+pub push-b1-requires : goal.push-b1-requires
 unfolding entries_of
-push_cubic-b1-requires c =
+push-b1-requires c =
     let a = c.args in
     let s : State = state a.b a.verbs.now a.points.now in
     let h = c.requires in
@@ -21,7 +21,7 @@ unfolding entries_of
 push_conic-b2-requires c =
     let a = c.args in
     let s : State = state a.b a.verbs.now a.points.now in
-    let r1 = c.push_cubic-b1 in
+    let r1 = c.push-b1 in
     let t1 : State = state r1.result r1.new.verbs r1.new.points in
     let h = c.requires in
     let h1 = room-rest s t1 (cubic_call a.o.circle ∷ []) (conic_call a.o.second ∷ [] ++ (conic_call a.o.first ∷ [])) (calls_plain s (cubic_call a.o.circle) (Cubic a.o.circle.c0 a.o.circle.c1 a.o.circle.to) refl t1 r1.ensures) r1.auto.verbs r1.auto.points h in
@@ -32,7 +32,7 @@ unfolding entries_of
 push_conic-requires c =
     let a = c.args in
     let s : State = state a.b a.verbs.now a.points.now in
-    let r1 = c.push_cubic-b1 in
+    let r1 = c.push-b1 in
     let t1 : State = state r1.result r1.new.verbs r1.new.points in
     let r2 = c.push_conic-b2 in
     let t2 : State = state r2.result r2.new.verbs r2.new.points in
@@ -46,7 +46,7 @@ unfolding entries_of
 returns c =
     let a = c.args in
     let s : State = state a.b a.verbs.now a.points.now in
-    let r1 = c.push_cubic-b1 in
+    let r1 = c.push-b1 in
     let t1 : State = state r1.result r1.new.verbs r1.new.points in
     let r2 = c.push_conic-b2 in
     let t2 : State = state r2.result r2.new.verbs r2.new.points in

@@ -11,9 +11,9 @@ use Rattle.contour.proofs.Along.{room_first, room-rest, calls_join}
 use Rattle.outline.proofs.Pushed.{room-plain, calls_plain}
 use Rattle.outline.proofs.push_corner.Goals as goal
 
-pub push_line-b1-requires : goal.push_line-b1-requires
+pub push-b1-requires : goal.push-b1-requires
 unfolding entries_of
-push_line-b1-requires c =
+push-b1-requires c =
     let a = c.args in
     let g = c.in-Square in
     let p = g.p in
@@ -22,15 +22,15 @@ push_line-b1-requires c =
     let h = subst (λ (x : Corner). RoomAlong s (calls_of x)) g.is c.requires in
     room-plain s (LineTo p) (Line p) refl (room_first s (LineTo p ∷ []) (LineTo q ∷ []) h)
 
-pub push_line-requires : goal.push_line-requires
+pub push-requires : goal.push-requires
 unfolding entries_of
-push_line-requires c =
+push-requires c =
     let a = c.args in
     let g = c.in-Square in
     let p = g.p in
     let q = g.q in
     let s : State = state a.b a.verbs.now a.points.now in
-    let r1 = c.push_line-b1 in
+    let r1 = c.push-b1 in
     let t1 : State = state r1.result r1.new.verbs r1.new.points in
     let h = subst (λ (x : Corner). RoomAlong s (calls_of x)) g.is c.requires in
     let h1 = room-rest s t1 (LineTo p ∷ []) (LineTo q ∷ []) (calls_plain s (LineTo p) (Line p) refl t1 r1.ensures) r1.auto.verbs r1.auto.points h in
@@ -67,9 +67,9 @@ returns-in-Square c =
     let p = g.p in
     let q = g.q in
     let s : State = state a.b a.verbs.now a.points.now in
-    let r1 = c.push_line-b1 in
+    let r1 = c.push-b1 in
     let t1 : State = state r1.result r1.new.verbs r1.new.points in
-    let r2 = c.push_line in
+    let r2 = c.push in
     let t2 : State = state r2.result r2.new.verbs r2.new.points in
     calls_join s t1 t2 (LineTo p ∷ []) (LineTo q ∷ []) (calls_plain s (LineTo p) (Line p) refl t1 r1.ensures) (calls_plain t1 (LineTo q) (Line q) refl t2 r2.ensures) ∙ ap (λ (x : Corner). push_calls s (calls_of x)) (sym g.is)
 

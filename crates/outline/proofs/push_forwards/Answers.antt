@@ -27,9 +27,9 @@ push_conic-b2-requires c =
     let h1 = room-rest s t1 (conic_call a.o.first ∷ []) (conic_call a.o.second ∷ [] ++ (cubic_call a.o.circle ∷ [])) r1.ensures r1.auto.verbs r1.auto.points h in
     room_first t1 (conic_call a.o.second ∷ []) (cubic_call a.o.circle ∷ []) h1
 
-pub push_cubic-requires : goal.push_cubic-requires
+pub push-requires : goal.push-requires
 unfolding entries_of
-push_cubic-requires c =
+push-requires c =
     let a = c.args in
     let s : State = state a.b a.verbs.now a.points.now in
     let r1 = c.push_conic-b1 in
@@ -50,6 +50,6 @@ returns c =
     let t1 : State = state r1.result r1.new.verbs r1.new.points in
     let r2 = c.push_conic-b2 in
     let t2 : State = state r2.result r2.new.verbs r2.new.points in
-    let r3 = c.push_cubic in
+    let r3 = c.push in
     let t3 : State = state r3.result r3.new.verbs r3.new.points in
     calls_join s t1 t3 (conic_call a.o.first ∷ []) (conic_call a.o.second ∷ [] ++ (cubic_call a.o.circle ∷ [])) r1.ensures (calls_join t1 t2 t3 (conic_call a.o.second ∷ []) (cubic_call a.o.circle ∷ []) r2.ensures (calls_plain t2 (cubic_call a.o.circle) (Cubic a.o.circle.c0 a.o.circle.c1 a.o.circle.to) refl t3 r3.ensures))

@@ -1,14 +1,18 @@
 -- Laws of `push` and `push_all`.
-use mathlib.Core.Path.{◌≡◌, refl, ◌∙◌}
+use mathlib.Core.Path.{◌≡◌, refl, sym, ap, ◌∙◌}
 use mathlib.Core.List.{List, [], ◌∷◌, ◌++◌}
-use Prim.Native.Nat.{ℕ, zero, suc, ◌+◌, ◌*◌, ◌<◌}
+use Prim.Native.Nat.{ℕ, zero, suc, ◌+◌, ◌*◌, ◌<◌, ◌≤◌}
 use native.Mathlib.Omega.{arith}
 use lib.ListN.{length, set}
 use lib.Ieee.{Float}
+use Rattle.std.proofs.Common.{Result, Ok, Err}
 use Rattle.stream.specs.declared.Builder.{Builder}
 use Rattle.stream.specs.declared.Element.{Element}
 use Rattle.stream.specs.declared.Element.TheVariants.{Move, Line, Quad, Cubic, Close}
-use Rattle.stream.specs.Stream.{put, verb_of, floats_of, size_of, sizes_of, point_count, start_after, pen_after, advance_of, State, state, push, push_all}
+use Rattle.stream.specs.declared.Verb.{Verb}
+use Rattle.stream.specs.declared.Verb.TheVariants as verb
+use Rattle.stream.specs.declared.UnknownVerb.{UnknownVerb}
+use Rattle.stream.specs.Stream.{put, verb_of, floats_of, size_of, sizes_of, byte_of, verb_in, point_count, start_after, pen_after, advance_of, State, state, push, push_all}
 use Rattle.stream.proofs.Put.{put_one}
 
 -- a verb's points are its element's
@@ -19,6 +23,59 @@ count_verb_lem (Line p) = refl
 count_verb_lem (Quad p q) = refl
 count_verb_lem (Cubic p q r) = refl
 count_verb_lem Close = refl
+
+-- a byte over 4 is no verb
+abbrev unknown : UnknownVerb → Result Verb UnknownVerb
+unknown e = Err e
+
+pub no_verb : (n : ℕ) → 4 < n → unknown (record { byte = n }) ≡ verb_in n
+unfolding verb_in
+no_verb zero h = absurd (omega arith)
+no_verb (suc zero) h = absurd (omega arith)
+no_verb (suc (suc zero)) h = absurd (omega arith)
+no_verb (suc (suc (suc zero))) h = absurd (omega arith)
+no_verb (suc (suc (suc (suc zero)))) h = absurd (omega arith)
+no_verb (suc (suc (suc (suc (suc n))))) h = refl
+
+-- a verb read from a byte has that byte
+byte_in : Result Verb UnknownVerb → ℕ
+byte_in (Ok v) = byte_of v
+byte_in (Err e) = e.byte
+
+byte_back : (n : ℕ) → byte_in (verb_in n) ≡ n
+unfolding verb_in byte_in
+byte_back zero = refl
+byte_back (suc zero) = refl
+byte_back (suc (suc zero)) = refl
+byte_back (suc (suc (suc zero))) = refl
+byte_back (suc (suc (suc (suc zero)))) = refl
+byte_back (suc (suc (suc (suc (suc n))))) = refl
+
+pub verb_byte : (n : ℕ) (v : Verb) (r : Result Verb UnknownVerb) → r ≡ verb_in n → r ≡ Ok v → byte_of v ≡ n
+unfolding byte_in
+verb_byte n v r e h = ap byte_in (sym h ∙ e) ∙ byte_back n
+
+-- a verb's byte is at most 4
+pub byte_few : (v : Verb) → byte_of v ≤ 4
+byte_few verb.Move = omega arith
+byte_few verb.Line = omega arith
+byte_few verb.Quad = omega arith
+byte_few verb.Cubic = omega arith
+byte_few verb.Close = omega arith
+
+-- where a byte is no verb it is over 4
+over_go : (n : ℕ) (e : UnknownVerb) → unknown e ≡ verb_in n → 4 < n
+unfolding verb_in
+over_go zero e h = absurd cc
+over_go (suc zero) e h = absurd cc
+over_go (suc (suc zero)) e h = absurd cc
+over_go (suc (suc (suc zero))) e h = absurd cc
+over_go (suc (suc (suc (suc zero)))) e h = absurd cc
+over_go (suc (suc (suc (suc (suc n))))) e h = omega arith
+
+pub verb_over : (n : ℕ) (r : Result Verb UnknownVerb) → r ≡ verb_in n → ((v : Verb) → r ≡ Ok v → ⊥) → 4 < n
+verb_over n (Ok v) e h = absurd (h v refl)
+verb_over n (Err x) e h = over_go n x e
 
 pub count_rest : (v : ℕ) → (v ≡ 0 → ⊥) → (v ≡ 1 → ⊥) → (v ≡ 2 → ⊥) → (v ≡ 3 → ⊥) → 0 ≡ point_count v
 unfolding point_count
