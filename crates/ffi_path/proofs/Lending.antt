@@ -11,6 +11,7 @@ use lib.Dec.{eqb}
 use lib.Ieee.{Float}
 use Rattle.std.proofs.Common.{Option, Some, None}
 use Rattle.stream.specs.declared.Builder.{Builder}
+use Rattle.stream.proofs.Tests.{and_left, and_right, and-false}
 use Rattle.stream.specs.Stream.{State, state}
 use Rattle.calls.specs.declared.BuildError.{BuildError}
 use Rattle.calls.specs.declared.BuildError.TheVariants.{BadRecord, NoRoom}
@@ -25,18 +26,9 @@ filled l vs e =
     ∙ ap (λ (r : List _). vs ++ r) (drop-length l)
     ∙ append-nil vs
 
-both : (a b : Bool) → a && b ≡ true → (a ≡ true) × (b ≡ true)
-both true b e = (refl, e)
-both false true e = (e, refl)
-both false false e = (e, e)
-
 pub fitting-is : (n m : ℕ) (r : Bool) → r ≡ fitting n m → r ≡ true → (n ≡ 3) × (m ≡ 4)
 unfolding fitting
-fitting-is n m r e t = let h = both (eqb n 3) (eqb m 4) (sym e ∙ t) in (eqb-true n 3 h.0, eqb-true m 4 h.1)
-
-and_false : (a : Bool) → a && false ≡ false
-and_false true = refl
-and_false false = refl
+fitting-is n m r e t = let h = sym e ∙ t in (eqb-true n 3 (and_left (eqb n 3) (eqb m 4) h), eqb-true m 4 (and_right (eqb n 3) (eqb m 4) h))
 
 -- the record of slices that hold one
 pub record RecordIn (counts : List ℕ) (places : List Float) (b : Builder) : Type 0 where
@@ -69,7 +61,7 @@ module _ (counts : List ℕ) (places : List Float) where
 
   pub not_places : (length places ≡ 4 → ⊥) → None ≡ record_in counts places
   unfolding record_in fitting
-  not_places h = rw (ne_eqb (length places) 4 h, and_false (eqb (length counts) 3))
+  not_places h = rw (ne_eqb (length places) 4 h, and-false (eqb (length counts) 3))
 
   pub as_record : length counts ≡ 3 → length places ≡ 4 → Some (builder_at counts places) ≡ record_in counts places
   unfolding record_in fitting

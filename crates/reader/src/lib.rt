@@ -88,7 +88,8 @@ fn segment_at(verb: Verb, points: &[f32], at: usize) -> Segment
     }
 }
 
-// The segment at c and the next cursor.
+// The segment at c and the next cursor. Set in place where it is called: as a call of its own it costs half as much again.
+#[inline(always)]
 pub fn read(
     b: Builder,
     verbs: &[u8],
