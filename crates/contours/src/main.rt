@@ -104,11 +104,9 @@ fn draw(
 ) -> io::Result<()> {
     let mut held = b;
     let mut x = -1.75;
-    let mut i = 0u8;
-    while i < 4 {
+    for _ in 0..4u8 {
         held = draw_at(rt, face, held, verbs, points, x)?;
         x = x + 1.5;
-        i += 1;
     }
     lines::write_stream(rt, held, verbs, points)
 }

@@ -7,71 +7,41 @@ ghost use Rattle.io.specs.Counts.{IsPrefixLen};
 
 use std::io;
 use std::io::Read;
-use text::{Class, Number};
 
-// How many bytes the file has so far, or that the line is bad.
-#[derive(Drop)]
-enum Held {
-    Bytes(usize),
-    Bad,
-}
-
-// Some bytes behind others, which has to have room.
-fn put_bytes(line: &mut [u8], at: usize, bytes: &[u8]) -> Held {
+// Some bytes behind others, which has to have room: how many there are then.
+fn put_bytes(line: &mut [u8], at: usize, bytes: &[u8]) -> Option<usize> {
     let next = text::put(line, at, bytes);
-    if next == at {
-        return Held::Bad;
-    }
-    Held::Bytes(next)
+    if next == at { None } else { Some(next) }
 }
 
 // A field's bytes behind those of the line's fields before, the lowest first.
-fn put_field(line: &mut [u8], at: usize, word: &[u8]) -> Held {
-    let Number::Of(n) = text::read_hexadecimal(word) else {
-        return Held::Bad;
-    };
-    let bytes = [
-        (n % 256) as u8,
-        (n / 256 % 256) as u8,
-        (n / 65536 % 256) as u8,
-        (n / 16777216 % 256) as u8,
-    ];
+fn put_field(line: &mut [u8], at: usize, word: &[u8]) -> Option<usize> {
+    let n = text::read_number(word, 16)?;
+    let bytes = n.to_le_bytes();
     match word.len() {
         2 => put_bytes(line, at, &bytes[..1]),
         4 => put_bytes(line, at, &bytes[..2]),
-        8 => put_bytes(line, at, &bytes),
-        _ => Held::Bad,
+        8 => put_bytes(line, at, &bytes[..4]),
+        _ => None,
     }
 }
 
 // The bytes of all fields of a line.
-fn put_fields(line: &mut [u8], words: &[u8]) -> Held {
+fn put_fields(line: &mut [u8], words: &[u8]) -> Option<usize> {
     let mut n = 0;
-    let mut at = 0;
-    while at < words.len() {
-        let rest = &words[at..];
-        let skip = text::leading(rest, Class::Blank);
-        let tail = &rest[skip..];
-        let len = text::leading(tail, Class::Word);
-        if len == 0 {
-            return Held::Bytes(n);
-        }
-        let Held::Bytes(next) = put_field(line, n, &tail[0..len]) else {
-            return Held::Bad;
-        };
-        n = next;
-        at = at + skip + len;
+    let mut rest = words;
+    while let Some((word, tail)) = text::split_word(rest) {
+        n = put_field(line, n, word)?;
+        rest = tail;
     }
-    Held::Bytes(n)
+    Some(n)
 }
 
 // So many copies of some bytes behind the file's; as many as there is room for.
 fn put_copies(file: &mut [u8], held: usize, part: &[u8], times: u64) -> usize {
     let mut at = held;
-    let mut i = 0;
-    while i < times {
+    for _ in 0..times {
         at = text::put(file, at, part);
-        i += 1;
     }
     at
 }
@@ -83,45 +53,40 @@ fn write_report(rt: &impl Print, file: &[u8]) -> io::Result<()> {
 }
 
 // A line that adds bytes to the file: how often, then the fields.
-fn add(file: &mut [u8], held: usize, line: &[u8]) -> Held {
-    let Number::Of(times) = text::read_decimal(text::first_word(line)) else {
-        return Held::Bad;
-    };
+fn add(file: &mut [u8], held: usize, line: &[u8]) -> Option<usize> {
+    let (word, rest) = text::split_word(line)?;
+    let times = text::read_number(word, 10)?;
     let mut part = [0u8; 512];
-    let Held::Bytes(n) = put_fields(&mut part, text::after_word(line)) else {
-        return Held::Bad;
-    };
-    if n > part.len() {
-        return Held::Bad;
-    }
-    Held::Bytes(put_copies(file, held, &part[0..n], times))
+    let n = put_fields(&mut part, rest)?;
+    Some(put_copies(file, held, part.get(..n)?, times))
 }
 
-fn take_line(rt: &impl Print, file: &mut [u8], held: usize, line: &[u8]) -> io::Result<Held> {
-    let word = text::first_word(line);
-    if word.len() == 0 {
-        return Ok(Held::Bytes(held));
-    }
-    if check::same(word, b"report") {
-        if held <= file.len() {
-            write_report(rt, &file[0..held])?;
+// How many bytes the file has behind the line; none where the line is bad.
+fn take_line(
+    rt: &impl Print,
+    file: &mut [u8],
+    held: usize,
+    line: &[u8],
+) -> io::Result<Option<usize>> {
+    match text::split_word(line) {
+        None => Ok(Some(held)),
+        Some((b"report", _)) => {
+            if let Some(whole) = file.get(..held) {
+                write_report(rt, whole)?;
+            }
+            Ok(Some(0))
         }
-        return Ok(Held::Bytes(0));
+        Some(_) => Ok(add(file, held, line)),
     }
-    Ok(add(file, held, line))
 }
 
 fn take_lines(rt: &impl Print, file: &mut [u8], lines: &[u8]) -> io::Result<()> {
     let mut held = 0;
-    let mut at = 0;
-    while at < lines.len() {
-        let rest = &lines[at..];
-        let n = text::leading(rest, Class::Line);
-        let Held::Bytes(next) = take_line(rt, file, held, &rest[0..n])? else {
-            return rt.write_all(b"bad\n");
+    for line in lines.split(|b| *b == b'\n') {
+        let Some(next) = take_line(rt, file, held, line)? else {
+            return rt.println("bad");
         };
         held = next;
-        at = at + n + 1;
     }
     Ok(())
 }

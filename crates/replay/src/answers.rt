@@ -8,14 +8,8 @@ use shape::Answer;
 use std::io;
 use stream::Builder;
 
-// No reply is longer than the buffer.
 pub fn write(rt: &impl Print, reply: Reply) -> io::Result<()> {
-    let mut out = [0u8; 128];
-    let n = replies::put(&mut out, reply);
-    if n <= 128 {
-        rt.write_all(&out[0..n])?;
-    }
-    Ok(())
+    rt.println(reply)
 }
 
 fn of_reading(r: Reading) -> Reply {

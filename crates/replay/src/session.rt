@@ -65,8 +65,7 @@ fn is_end(s: Segment) -> bool {
 // more verbs than are lent.
 fn write_segments(rt: &impl Print, b: Builder, verbs: &[u8], floats: &[f32]) -> io::Result<bool> {
     let mut c = Cursor { verb: 0, point: 0 };
-    let mut i = 0;
-    while i <= verbs.len() {
+    for _ in 0..=verbs.len() {
         let r = reader::read(b, verbs, floats, c);
         let Reading::Item(segment, next) = r else {
             answers::write_reading(rt, r)?;
@@ -77,7 +76,6 @@ fn write_segments(rt: &impl Print, b: Builder, verbs: &[u8], floats: &[f32]) -> 
         }
         answers::write(rt, Reply::Element(segment))?;
         c = next;
-        i += 1;
     }
     Ok(true)
 }
@@ -143,22 +141,6 @@ pub fn end_stream(rt: &impl Print, s: Session, verbs: &[u8], floats: &[f32]) -> 
     ask(rt, s, Question::All, verbs, floats)
 }
 
-fn clear_verbs(verbs: &mut [u8]) {
-    let mut i = 0;
-    while i < verbs.len() {
-        verbs[i] = 0;
-        i += 1;
-    }
-}
-
-fn clear_floats(floats: &mut [f32]) {
-    let mut i = 0;
-    while i < floats.len() {
-        floats[i] = 0.0;
-        i += 1;
-    }
-}
-
 // Another list or raw stream, or another kind of it, in place of the current one.
 fn replaced(s: Session, kind: Kind, builder: Builder, verbs: usize, floats: usize) -> Session {
     Session {
@@ -186,8 +168,8 @@ fn begin_list(
         return bad_line(rt, s);
     }
     end_stream(rt, s, verbs, floats)?;
-    clear_verbs(verbs);
-    clear_floats(floats);
+    verbs.fill(0);
+    floats.fill(0.0);
     Ok(replaced(s, Kind::List, stream::new(), v, f))
 }
 
@@ -275,10 +257,9 @@ fn grow_verbs(rt: &impl Print, s: Session, line: &[u8], verbs: &mut [u8]) -> io:
     let Kind::Raw = kind else {
         return bad_line(rt, s);
     };
-    let held = operands::push_verbs(line, verbs, s.verbs);
-    if held > verbs.len() {
+    let Some(held) = operands::push(line, verbs, s.verbs) else {
         return bad_line(rt, s);
-    }
+    };
     let mut s = s;
     s.verbs = held;
     Ok(s)
@@ -294,10 +275,9 @@ fn grow_floats(
     let Kind::Raw = kind else {
         return bad_line(rt, s);
     };
-    let held = operands::push_floats(line, floats, s.floats);
-    if held > floats.len() {
+    let Some(held) = operands::push(line, floats, s.floats) else {
         return bad_line(rt, s);
-    }
+    };
     let mut s = s;
     s.floats = held;
     Ok(s)
@@ -334,9 +314,13 @@ fn take_item(
     verbs: &mut [u8],
     floats: &mut [f32],
 ) -> io::Result<Session> {
-    match items::item_of(line) {
-        Item::Nothing => Ok(s),
-        Item::Bad => bad_line(rt, s),
+    let Ok(item) = items::item_of(line) else {
+        return bad_line(rt, s);
+    };
+    let Some(item) = item else {
+        return Ok(s);
+    };
+    match item {
         Item::Buffers(v, f) => begin_list(rt, s, v, f, verbs, floats),
         Item::Build(call) => build(rt, s, call, verbs, floats),
         Item::Outline(bounds, radii) => {
