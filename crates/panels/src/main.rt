@@ -92,7 +92,7 @@ fn take_lines(rt: &impl Print, file: &mut [u8], lines: &[u8]) -> io::Result<()> 
 }
 
 // Reads until buf is full, the input ends or a read fails, and returns how many bytes it put at the
-// start of buf.
+// start of buf. Stays a loop over `read`: the library's `read_to_end` fills a Vec, and no lent buffer.
 fn read_full<R: Read>(input: &mut R, buf: &mut [u8]) -> usize
     ensures { IsPrefixLen result buf.new }
 {

@@ -21,7 +21,13 @@ struct Eighth(Octant);
 impl fmt::Display for Eighth {
     fn fmt<W: fmt::Write>(&self, f: &mut fmt::Formatter<W>) -> fmt::Result {
         let Eighth(o) = *self;
-        write!(f, "{} {} {} ", Place(o.offset), Spelled(o.se_a), Spelled(o.se_n))?;
+        write!(
+            f,
+            "{} {} {} ",
+            Place(o.offset),
+            Spelled(o.se_a),
+            Spelled(o.se_n)
+        )?;
         write!(f, "{} {} ", Place(o.circle_start), Place(o.circle_center))?;
         write!(f, "{}", Spelled(o.circle_max_angle))
     }
