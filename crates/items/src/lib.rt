@@ -113,7 +113,8 @@ fn of_name(name: &[u8]) -> Option<Item>
     }
 }
 
-// A name with a point, with up to three, and with a shape.
+// A name with a point, with up to three, and with a shape. Where a length is told apart too, names stay
+// compared by `==`: a `match` on the name within one on the length was tried, and its proof did not close.
 #[tactic(auto, unfolding(crate::specs::Items::of_two))]
 fn of_two(name: &[u8], p: Point) -> Option<Item>
     ensures { result ≡ of_two name.now p }

@@ -7,19 +7,16 @@ ghost use Rattle.io.specs.Counts.{IsPrefixLen};
 
 use std::io;
 use std::io::Read;
-use text::{Class, Number};
 
-// Some bytes behind others; none where there is no room.
+// Some bytes behind others, which has to have room: how many there are then.
 fn put_bytes(line: &mut [u8], at: usize, bytes: &[u8]) -> Option<usize> {
     let next = text::put(line, at, bytes);
     if next == at { None } else { Some(next) }
 }
 
-// A field's bytes behind those of the line's fields before, the lowest first; none for a bad field.
+// A field's bytes behind those of the line's fields before, the lowest first.
 fn put_field(line: &mut [u8], at: usize, word: &[u8]) -> Option<usize> {
-    let Number::Of(n) = text::read_hexadecimal(word) else {
-        return None;
-    };
+    let n = text::read_number(word, 16)?;
     let bytes = n.to_le_bytes();
     match word.len() {
         2 => put_bytes(line, at, &bytes[..1]),
@@ -29,20 +26,13 @@ fn put_field(line: &mut [u8], at: usize, word: &[u8]) -> Option<usize> {
     }
 }
 
-// The bytes of all fields of a line; none where one is bad.
+// The bytes of all fields of a line.
 fn put_fields(line: &mut [u8], words: &[u8]) -> Option<usize> {
     let mut n = 0;
-    let mut at = 0;
-    while at < words.len() {
-        let rest = &words[at..];
-        let skip = text::leading(rest, Class::Blank);
-        let tail = &rest[skip..];
-        let len = text::leading(tail, Class::Word);
-        if len == 0 {
-            return Some(n);
-        }
-        n = put_field(line, n, &tail[..len])?;
-        at = at + skip + len;
+    let mut rest = words;
+    while let Some((word, tail)) = text::split_word(rest) {
+        n = put_field(line, n, word)?;
+        rest = tail;
     }
     Some(n)
 }
@@ -62,43 +52,39 @@ fn write_report(rt: &impl Print, file: &[u8]) -> io::Result<()> {
     rt.write_all(&out[..n])
 }
 
-// A line that adds bytes to the file, how often, then the fields: how many bytes it holds then, none for a bad line.
+// A line that adds bytes to the file: how often, then the fields.
 fn add(file: &mut [u8], held: usize, line: &[u8]) -> Option<usize> {
-    let Number::Of(times) = text::read_decimal(text::first_word(line)) else {
-        return None;
-    };
+    let (word, rest) = text::split_word(line)?;
+    let times = text::read_number(word, 10)?;
     let mut part = [0u8; 512];
-    let n = put_fields(&mut part, text::after_word(line))?;
-    if n > part.len() {
-        return None;
-    }
-    Some(put_copies(file, held, &part[..n], times))
+    let n = put_fields(&mut part, rest)?;
+    Some(put_copies(file, held, part.get(..n)?, times))
 }
 
+// How many bytes the file has behind the line; none where the line is bad.
 fn take_line(
     rt: &impl Print,
     file: &mut [u8],
     held: usize,
     line: &[u8],
 ) -> io::Result<Option<usize>> {
-    let word = text::first_word(line);
-    if word.is_empty() {
-        return Ok(Some(held));
-    }
-    if check::same(word, b"report") {
-        if held <= file.len() {
-            write_report(rt, &file[..held])?;
+    match text::split_word(line) {
+        None => Ok(Some(held)),
+        Some((b"report", _)) => {
+            if let Some(whole) = file.get(..held) {
+                write_report(rt, whole)?;
+            }
+            Ok(Some(0))
         }
-        return Ok(Some(0));
+        Some(_) => Ok(add(file, held, line)),
     }
-    Ok(add(file, held, line))
 }
 
 fn take_lines(rt: &impl Print, file: &mut [u8], lines: &[u8]) -> io::Result<()> {
     let mut held = 0;
     for line in lines.split(|b| *b == b'\n') {
         let Some(next) = take_line(rt, file, held, line)? else {
-            return rt.write_all(b"bad\n");
+            return rt.println("bad");
         };
         held = next;
     }
@@ -106,7 +92,7 @@ fn take_lines(rt: &impl Print, file: &mut [u8], lines: &[u8]) -> io::Result<()> 
 }
 
 // Reads until buf is full, the input ends or a read fails, and returns how many bytes it put at the
-// start of buf.
+// start of buf. Stays a loop over `read`: the library's `read_to_end` fills a Vec, and no lent buffer.
 fn read_full<R: Read>(input: &mut R, buf: &mut [u8]) -> usize
     ensures { IsPrefixLen result buf.new }
 {

@@ -9,19 +9,13 @@ use shape::{RoundSuperellipse, ShapeError};
 use std::io;
 use stream::Builder;
 
-// No reply is longer than the buffer.
 pub fn write(rt: &impl Print, reply: Reply) -> io::Result<()> {
-    let mut out = [0u8; 128];
-    let n = replies::put(&mut out, reply);
-    if n <= 128 {
-        rt.write_all(&out[0..n])?;
-    }
-    Ok(())
+    rt.println(reply)
 }
 
 fn of_refusal(e: ReadError) -> Reply {
     match e {
-        ReadError::BadRecord(_) => Reply::Refused(1),
+        ReadError::BadRecord(_) => Reply::Refused(u64::from(e.number())),
         ReadError::Malformed(v) => Reply::Malformed(v as u64),
     }
 }

@@ -61,8 +61,7 @@ fn bad_line(rt: &impl Print, s: Session) -> io::Result<Session> {
 // more verbs than are lent.
 fn write_segments(rt: &impl Print, b: Builder, verbs: &[u8], floats: &[f32]) -> io::Result<bool> {
     let mut c = Cursor { verb: 0, point: 0 };
-    let mut i = 0;
-    while i <= verbs.len() {
+    for _ in 0..=verbs.len() {
         match reader::read(b, verbs, floats, c) {
             Err(e) => {
                 answers::write_refusal(rt, e)?;
@@ -74,7 +73,6 @@ fn write_segments(rt: &impl Print, b: Builder, verbs: &[u8], floats: &[f32]) -> 
                 c = next;
             }
         }
-        i += 1;
     }
     Ok(true)
 }
@@ -140,22 +138,6 @@ pub fn end_stream(rt: &impl Print, s: Session, verbs: &[u8], floats: &[f32]) -> 
     ask(rt, s, Question::All, verbs, floats)
 }
 
-fn clear_verbs(verbs: &mut [u8]) {
-    let mut i = 0;
-    while i < verbs.len() {
-        verbs[i] = 0;
-        i += 1;
-    }
-}
-
-fn clear_floats(floats: &mut [f32]) {
-    let mut i = 0;
-    while i < floats.len() {
-        floats[i] = 0.0;
-        i += 1;
-    }
-}
-
 // Another list or raw stream, or another kind of it, in place of the current one.
 fn replaced(s: Session, kind: Kind, builder: Builder, verbs: usize, floats: usize) -> Session {
     Session {
@@ -183,8 +165,8 @@ fn begin_list(
         return bad_line(rt, s);
     }
     end_stream(rt, s, verbs, floats)?;
-    clear_verbs(verbs);
-    clear_floats(floats);
+    verbs.fill(0);
+    floats.fill(0.0);
     Ok(replaced(s, Kind::List, stream::new(), v, f))
 }
 
@@ -272,10 +254,9 @@ fn grow_verbs(rt: &impl Print, s: Session, line: &[u8], verbs: &mut [u8]) -> io:
     let Kind::Raw = kind else {
         return bad_line(rt, s);
     };
-    let held = operands::push_verbs(line, verbs, s.verbs);
-    if held > verbs.len() {
+    let Some(held) = operands::push(line, verbs, s.verbs) else {
         return bad_line(rt, s);
-    }
+    };
     let mut s = s;
     s.verbs = held;
     Ok(s)
@@ -291,10 +272,9 @@ fn grow_floats(
     let Kind::Raw = kind else {
         return bad_line(rt, s);
     };
-    let held = operands::push_floats(line, floats, s.floats);
-    if held > floats.len() {
+    let Some(held) = operands::push(line, floats, s.floats) else {
         return bad_line(rt, s);
-    }
+    };
     let mut s = s;
     s.floats = held;
     Ok(s)
@@ -331,9 +311,13 @@ fn take_item(
     verbs: &mut [u8],
     floats: &mut [f32],
 ) -> io::Result<Session> {
-    match items::item_of(line) {
-        Item::Nothing => Ok(s),
-        Item::Bad => bad_line(rt, s),
+    let Ok(item) = items::item_of(line) else {
+        return bad_line(rt, s);
+    };
+    let Some(item) = item else {
+        return Ok(s);
+    };
+    match item {
         Item::Buffers(v, f) => begin_list(rt, s, v, f, verbs, floats),
         Item::Build(call) => build(rt, s, call, verbs, floats),
         Item::Outline(bounds, radii) => {

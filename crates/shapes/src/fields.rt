@@ -3,40 +3,55 @@ use geometry::Point;
 use octant::Octant;
 use quadrant::Quadrant;
 use shape::RoundSuperellipse;
+use std::fmt;
+use text::Spelled;
 
-fn put_float(out: &mut [u8], at: usize, x: f32) -> usize {
-    let n = text::put_single(out, at, x);
-    text::put(out, n, b" ")
-}
+#[derive(Clone, Copy)]
+struct Place(Point);
 
-fn put_point(out: &mut [u8], at: usize, p: Point) -> usize {
-    let n = put_float(out, at, p.x);
-    put_float(out, n, p.y)
-}
-
-fn put_octant(out: &mut [u8], at: usize, o: Octant) -> usize {
-    let n = put_point(out, at, o.offset);
-    let n = put_float(out, n, o.se_a);
-    let n = put_float(out, n, o.se_n);
-    let n = put_point(out, n, o.circle_start);
-    let n = put_point(out, n, o.circle_center);
-    put_float(out, n, o.circle_max_angle)
-}
-
-fn put_quadrant(out: &mut [u8], at: usize, q: Quadrant) -> usize {
-    let n = put_point(out, at, q.offset);
-    let n = put_point(out, n, q.signed_scale);
-    let n = put_octant(out, n, q.top);
-    put_octant(out, n, q.right)
-}
-
-pub fn put_shape(out: &mut [u8], s: RoundSuperellipse) -> usize {
-    let n = put_quadrant(out, 0, s.top_right);
-    let n = put_quadrant(out, n, s.bottom_right);
-    let n = put_quadrant(out, n, s.bottom_left);
-    let n = put_quadrant(out, n, s.top_left);
-    if s.all_corners_same {
-        return text::put(out, n, b"1");
+impl fmt::Display for Place {
+    fn fmt<W: fmt::Write>(&self, f: &mut fmt::Formatter<W>) -> fmt::Result {
+        write!(f, "{} {}", Spelled(self.0.x), Spelled(self.0.y))
     }
-    text::put(out, n, b"0")
+}
+
+#[derive(Clone, Copy)]
+struct Eighth(Octant);
+
+impl fmt::Display for Eighth {
+    fn fmt<W: fmt::Write>(&self, f: &mut fmt::Formatter<W>) -> fmt::Result {
+        let Eighth(o) = *self;
+        write!(
+            f,
+            "{} {} {} ",
+            Place(o.offset),
+            Spelled(o.se_a),
+            Spelled(o.se_n)
+        )?;
+        write!(f, "{} {} ", Place(o.circle_start), Place(o.circle_center))?;
+        write!(f, "{}", Spelled(o.circle_max_angle))
+    }
+}
+
+#[derive(Clone, Copy)]
+struct Quarter(Quadrant);
+
+impl fmt::Display for Quarter {
+    fn fmt<W: fmt::Write>(&self, f: &mut fmt::Formatter<W>) -> fmt::Result {
+        let Quarter(q) = *self;
+        write!(f, "{} {} ", Place(q.offset), Place(q.signed_scale))?;
+        write!(f, "{} {}", Eighth(q.top), Eighth(q.right))
+    }
+}
+
+#[derive(Clone, Copy)]
+pub struct Fields(pub RoundSuperellipse);
+
+impl fmt::Display for Fields {
+    fn fmt<W: fmt::Write>(&self, f: &mut fmt::Formatter<W>) -> fmt::Result {
+        let Fields(s) = *self;
+        write!(f, "{} {} ", Quarter(s.top_right), Quarter(s.bottom_right))?;
+        write!(f, "{} {} ", Quarter(s.bottom_left), Quarter(s.top_left))?;
+        f.write_str(if s.all_corners_same { "1" } else { "0" })
+    }
 }

@@ -8,56 +8,40 @@
 
 mod fields;
 
+use fields::Fields;
 use shape::{RoundSuperellipse, ShapeError};
 use std::io;
 use std::io::Read;
 
-fn put_answer(out: &mut [u8], made: Result<RoundSuperellipse, ShapeError>) -> usize {
+fn write_made(rt: &impl Print, made: Result<RoundSuperellipse, ShapeError>) -> io::Result<()> {
     match made {
-        Ok(shape) => fields::put_shape(out, shape),
+        Ok(shape) => rt.println(Fields(shape)),
         Err(error) => {
-            let n = text::put(out, 0, b"refused ");
-            text::put_decimal(out, n, u64::from(error.number()))
+            let number = error.number();
+            println!(rt; "refused {number}")
         }
     }
 }
 
-fn write_line(rt: &impl Print, out: &mut [u8], n: usize) -> io::Result<()> {
-    let n = text::put(out, n, b"\n");
-    if n <= out.len() {
-        rt.write_all(&out[0..n])?;
-    }
-    Ok(())
-}
-
-fn write_bad(rt: &impl Print) -> io::Result<()> {
-    let mut out = [0u8; 8];
-    let n = text::put(&mut out, 0, b"bad");
-    write_line(rt, &mut out, n)
-}
-
 fn answer(rt: &impl Print, line: &[u8]) -> io::Result<()> {
-    let o = operands::read(line);
-    let count = o.count;
-    let x = o.x;
-    if count == 0 {
-        return Ok(());
+    let Some(operands) = operands::read(line) else {
+        return rt.println("bad");
+    };
+    let x = operands.as_slice();
+    match x.len() {
+        0 => Ok(()),
+        12 => write_made(
+            rt,
+            RoundSuperellipse::new(operands::bounds(x), operands::radii(x)),
+        ),
+        _ => rt.println("bad"),
     }
-    if count != 12 {
-        return write_bad(rt);
-    }
-    let mut out = [0u8; 1024];
-    let n = put_answer(
-        &mut out,
-        RoundSuperellipse::new(operands::bounds(x), operands::radii(x)),
-    );
-    write_line(rt, &mut out, n)
 }
 
 // One line, of which `held` bytes are held, one more than there is room for where it is too long.
 fn finish(rt: &impl Print, line: &[u8], held: usize) -> io::Result<()> {
     if held > line.len() {
-        return write_bad(rt);
+        return rt.println("bad");
     }
     answer(rt, &line[0..held])
 }

@@ -1,178 +1,116 @@
 // The functions of the float ground under the names that a vector uses, by the number of their
-// operands. A function that does not have the name hands it on to the next.
-use check::same;
+// operands.
 use geometry::Point;
-use text::Double;
+use std::fmt;
+use text::Spelled;
 
 #[derive(Drop)]
 pub enum Answer {
-    Bad,
     Flag(bool),
     Single(f32),
     Double(f64),
     Pair(f32, f32),
 }
 
-fn of_point(p: Point) -> Answer {
-    Answer::Pair(p.x, p.y)
-}
-
-fn one_double(name: &[u8], x: f64) -> Answer {
-    if same(name, b"narrow") {
-        return Answer::Single(ieee::narrow(x));
-    }
-    Answer::Double(x.abs())
-}
-
-fn elementary_of_one(name: &[u8], x: f32) -> Answer {
-    if same(name, b"tan") {
-        return Answer::Single(trigonometry::tan(x));
-    }
-    if same(name, b"sin_cos") {
-        let r = trigonometry::sin_cos(x);
-        return Answer::Pair(r.sin, r.cos);
-    }
-    Answer::Bad
-}
-
-fn simple_of_one(name: &[u8], x: f32) -> Answer {
-    if same(name, b"is_finite") {
-        return Answer::Flag(ieee::is_finite(x));
-    }
-    if same(name, b"abs") {
-        return Answer::Single(ieee::abs(x));
-    }
-    elementary_of_one(name, x)
-}
-
-fn of_one(name: &[u8], x: f32) -> Answer {
-    if same(name, b"widen") {
-        return Answer::Double(ieee::widen(x));
-    }
-    if same(name, b"sqrt") {
-        return Answer::Single(ieee::sqrt(x));
-    }
-    simple_of_one(name, x)
-}
-
-fn point_measure(name: &[u8], p: Point) -> Answer {
-    if same(name, b"point_length_squared") {
-        return Answer::Single(p.length_squared());
-    }
-    if same(name, b"point_length") {
-        return Answer::Single(p.length());
-    }
-    if same(name, b"point_is_finite") {
-        return Answer::Flag(p.is_finite());
-    }
-    Answer::Bad
-}
-
-fn point_alone(name: &[u8], p: Point) -> Answer {
-    if same(name, b"point_neg") {
-        return of_point(-p);
-    }
-    if same(name, b"point_abs") {
-        return of_point(p.abs());
-    }
-    if same(name, b"point_normalize") {
-        return of_point(p.normalize());
-    }
-    point_measure(name, p)
-}
-
-fn elementary_of_two(name: &[u8], a: f32, b: f32) -> Answer {
-    if same(name, b"pow") {
-        return Answer::Single(exponential::pow(a, b));
-    }
-    if same(name, b"atan2") {
-        return Answer::Single(trigonometry::atan2(a, b));
-    }
-    point_alone(name, Point { x: a, y: b })
-}
-
-fn of_two(name: &[u8], a: f32, b: f32) -> Answer {
-    if same(name, b"min") {
-        return Answer::Single(ieee::min(a, b));
-    }
-    if same(name, b"max") {
-        return Answer::Single(ieee::max(a, b));
-    }
-    elementary_of_two(name, a, b)
-}
-
-fn of_three(name: &[u8], a: f32, b: f32, c: f32) -> Answer {
-    if same(name, b"clamp") {
-        return Answer::Single(ieee::clamp(a, b, c));
-    }
-    let p = Point { x: a, y: b };
-    if same(name, b"point_scale") {
-        return of_point(p * c);
-    }
-    if same(name, b"point_shrink") {
-        return of_point(p / c);
-    }
-    Answer::Bad
-}
-
-fn point_product(name: &[u8], p: Point, q: Point) -> Answer {
-    if same(name, b"point_mul") {
-        return of_point(p * q);
-    }
-    if same(name, b"point_div") {
-        return of_point(p / q);
-    }
-    Answer::Bad
-}
-
-fn of_points(name: &[u8], p: Point, q: Point) -> Answer {
-    if same(name, b"point_add") {
-        return of_point(p + q);
-    }
-    if same(name, b"point_sub") {
-        return of_point(p - q);
-    }
-    if same(name, b"point_distance_squared") {
-        return Answer::Single(p.distance_squared(q));
-    }
-    point_product(name, p, q)
-}
-
-fn takes_double(name: &[u8]) -> bool {
-    if same(name, b"narrow") {
-        return true;
-    }
-    same(name, b"abs_f64")
-}
-
-fn of_double(name: &[u8], line: &[u8]) -> Answer {
-    let rest = text::after_word(line);
-    if text::first_word(rest).len() > 0 {
-        return Answer::Bad;
-    }
-    let Double::Of(x) = text::read_double(text::first_word(line)) else {
-        return Answer::Bad;
-    };
-    one_double(name, x)
-}
-
-fn of_singles(name: &[u8], line: &[u8]) -> Answer {
-    let o = operands::read(line);
-    let n = o.count;
-    let x = o.x;
-    match n {
-        1 => of_one(name, x[0]),
-        2 => of_two(name, x[0], x[1]),
-        3 => of_three(name, x[0], x[1], x[2]),
-        4 => of_points(name, Point { x: x[0], y: x[1] }, Point { x: x[2], y: x[3] }),
-        _ => Answer::Bad,
+impl fmt::Display for Answer {
+    fn fmt<W: fmt::Write>(&self, f: &mut fmt::Formatter<W>) -> fmt::Result {
+        match self {
+            Answer::Flag(yes) => f.write_str(if *yes { "1" } else { "0" }),
+            Answer::Single(x) => write!(f, "{}", Spelled(*x)),
+            Answer::Double(x) => write!(f, "{}", Spelled(*x)),
+            Answer::Pair(x, y) => write!(f, "{} {}", Spelled(*x), Spelled(*y)),
+        }
     }
 }
 
-// The answer for a function's name and the rest of its line.
-pub fn answer_to(name: &[u8], line: &[u8]) -> Answer {
-    if takes_double(name) {
-        return of_double(name, line);
+impl From<Point> for Answer {
+    fn from(p: Point) -> Answer {
+        Answer::Pair(p.x, p.y)
     }
-    of_singles(name, line)
+}
+
+fn of_one(name: &[u8], x: f32) -> Option<Answer> {
+    Some(match name {
+        b"widen" => Answer::Double(ieee::widen(x)),
+        b"sqrt" => Answer::Single(ieee::sqrt(x)),
+        b"is_finite" => Answer::Flag(ieee::is_finite(x)),
+        b"abs" => Answer::Single(ieee::abs(x)),
+        b"tan" => Answer::Single(trigonometry::tan(x)),
+        b"sin_cos" => {
+            let r = trigonometry::sin_cos(x);
+            Answer::Pair(r.sin, r.cos)
+        }
+        _ => return None,
+    })
+}
+
+fn of_point(name: &[u8], p: Point) -> Option<Answer> {
+    Some(match name {
+        b"point_neg" => Answer::from(-p),
+        b"point_abs" => Answer::from(p.abs()),
+        b"point_normalize" => Answer::from(p.normalize()),
+        b"point_length_squared" => Answer::Single(p.length_squared()),
+        b"point_length" => Answer::Single(p.length()),
+        b"point_is_finite" => Answer::Flag(p.is_finite()),
+        _ => return None,
+    })
+}
+
+fn of_two(name: &[u8], a: f32, b: f32) -> Option<Answer> {
+    Some(match name {
+        b"min" => Answer::Single(ieee::min(a, b)),
+        b"max" => Answer::Single(ieee::max(a, b)),
+        b"pow" => Answer::Single(exponential::pow(a, b)),
+        b"atan2" => Answer::Single(trigonometry::atan2(a, b)),
+        _ => return of_point(name, Point { x: a, y: b }),
+    })
+}
+
+fn of_three(name: &[u8], p: Point, c: f32) -> Option<Answer> {
+    Some(match name {
+        b"clamp" => Answer::Single(ieee::clamp(p.x, p.y, c)),
+        b"point_scale" => Answer::from(p * c),
+        b"point_shrink" => Answer::from(p / c),
+        _ => return None,
+    })
+}
+
+fn of_points(name: &[u8], p: Point, q: Point) -> Option<Answer> {
+    Some(match name {
+        b"point_add" => Answer::from(p + q),
+        b"point_sub" => Answer::from(p - q),
+        b"point_distance_squared" => Answer::Single(p.distance_squared(q)),
+        b"point_mul" => Answer::from(p * q),
+        b"point_div" => Answer::from(p / q),
+        _ => return None,
+    })
+}
+
+// The double that a line's only word spells.
+fn only_double(line: &[u8]) -> Option<f64> {
+    let (word, rest) = text::split_word(line)?;
+    if text::split_word(rest).is_some() {
+        return None;
+    }
+    text::read_float(word)
+}
+
+fn of_singles(name: &[u8], line: &[u8]) -> Option<Answer> {
+    let operands = operands::read(line)?;
+    match operands.as_slice() {
+        [x] => of_one(name, *x),
+        [a, b] => of_two(name, *a, *b),
+        [a, b, c] => of_three(name, Point { x: *a, y: *b }, *c),
+        [a, b, c, d] => of_points(name, Point { x: *a, y: *b }, Point { x: *c, y: *d }),
+        _ => None,
+    }
+}
+
+// The answer for a function's name and the rest of its line; none where that is no vector.
+pub fn answer_to(name: &[u8], line: &[u8]) -> Option<Answer> {
+    match name {
+        b"narrow" => Some(Answer::Single(ieee::narrow(only_double(line)?))),
+        b"abs_f64" => Some(Answer::Double(only_double(line)?.abs())),
+        _ => of_singles(name, line),
+    }
 }
