@@ -5,7 +5,7 @@
 #![tactic(auto)]
 
 ghost use Rattle.std.specs.Prelude.{◌≡◌, ◌+◌, ◌<◌};
-ghost use Rattle.arcs.specs.Conics.{conic_at, capped_degree, superellipse_conic_factors_of, intersection_of, meeting_of, joined_of};
+ghost use Rattle.arcs.specs.Conics.{capped_degree, superellipse_conic_factors_of, intersection_of, meeting_of, joined_of};
 ghost use Rattle.arcs.specs.Circle.{arc_points_of};
 ghost use Rattle.arcs.specs.Placement.{flipped_of, apply_of};
 
@@ -61,28 +61,6 @@ pub struct Placement {
     pub flip: bool,
 }
 
-// Both weights of a row of the table and of the next, read from one copy of it.
-#[derive(Drop)]
-struct RowPair {
-    first: f32,
-    second: f32,
-    next_first: f32,
-    next_second: f32,
-}
-
-fn rows_at(left: usize) -> RowPair
-    requires { left < 12 }
-    ensures { (result.first ≡ conic_at left 0) × (result.second ≡ conic_at left 1) × (result.next_first ≡ conic_at (left + 1) 0) × (result.next_second ≡ conic_at (left + 1) 1) }
-{
-    let table = CONIC_TABLE;
-    RowPair {
-        first: table[left][0],
-        second: table[left][1],
-        next_first: table[left + 1][0],
-        next_second: table[left + 1][1],
-    }
-}
-
 // A degree is capped at the table's last, and not raised to its first.
 fn capped_degree(n: f32) -> f32
     ensures { result ≡ capped_degree n }
@@ -104,7 +82,7 @@ pub fn superellipse_conic_factors(n: f32, xj_over_a: f32) -> ConicFactors
     let left = octant::left_row(steps, 11);
     let frac = steps - left as f32;
     let yh_proportion = ieee::sqrt(capped);
-    let rows = rows_at(left);
+    let rows = octant::rows_at(&CONIC_TABLE, left);
     let weight1 = (1.0 - frac) * rows.first + frac * rows.next_first * yh_proportion;
     let weight2 = (1.0 - frac) * rows.second + frac * rows.next_second * xj_over_a;
     ConicFactors {

@@ -4,7 +4,7 @@
 #![tactic(auto)]
 
 ghost use Rattle.std.specs.Prelude.{◌≡◌, ◌+◌, ◌<◌, ◌^◌, map};
-ghost use Rattle.octant.specs.Degree.{corner_at, left_row_of, table_steps_of, n_and_xj_of};
+ghost use Rattle.octant.specs.Degree.{corner_at, entry, left_row_of, table_steps_of, n_and_xj_of};
 ghost use Rattle.octant.specs.Octant.{circle_center_through_of, angle_between_of, compute_octant_of, moved_of};
 ghost use Rattle.octant.specs.Stages.{fitted_of, solve_of, round_of, finished_of};
 ghost use Rattle.octant.specs.declared.Unsolved.{Unsolved};
@@ -75,25 +75,25 @@ fn corner(row: usize, column: usize) -> f32
     CORNER_TABLE[row][column]
 }
 
-// A row of the table and the next, read from one copy of it.
+// A row of a table and the next.
 #[derive(Drop)]
-struct RowPair {
-    n: f32,
-    k: f32,
-    next_n: f32,
-    next_k: f32,
+pub struct RowPair {
+    pub first: f32,
+    pub second: f32,
+    pub next_first: f32,
+    pub next_second: f32,
 }
 
-fn rows_at(left: usize) -> RowPair
-    requires { left < 10 }
-    ensures { (result.n ≡ corner_at left 0) × (result.k ≡ corner_at left 1) × (result.next_n ≡ corner_at (left + 1) 0) × (result.next_k ≡ corner_at (left + 1) 1) }
+// The table is lent: a copy that is indexed by a variable would be written to the stack.
+pub fn rows_at<const N: usize>(table: &[[f32; 2]; N], left: usize) -> RowPair
+    requires { left + 1 < N }
+    ensures { (result.first ≡ entry table.now left 0) × (result.second ≡ entry table.now left 1) × (result.next_first ≡ entry table.now (left + 1) 0) × (result.next_second ≡ entry table.now (left + 1) 1) }
 {
-    let table = CORNER_TABLE;
     RowPair {
-        n: table[left][0],
-        k: table[left][1],
-        next_n: table[left + 1][0],
-        next_k: table[left + 1][1],
+        first: table[left][0],
+        second: table[left][1],
+        next_first: table[left + 1][0],
+        next_second: table[left + 1][1],
     }
 }
 
@@ -101,16 +101,14 @@ fn rows_at(left: usize) -> RowPair
 pub fn left_row(steps: f32, last: u8) -> usize
     ensures { result ≡ left_row_of steps last }
 {
-    let end = last as usize;
-    let mut left = 0;
-    while left < end {
+    let end = usize::from(last);
+    for left in 0..end {
         if steps >= (left + 1) as f32 {
-            left += 1;
-        } else {
-            return left;
+            continue;
         }
+        return left;
     }
-    left
+    end
 }
 
 // Where a ratio stands among the rows.
@@ -138,9 +136,9 @@ pub fn n_and_xj(ratio: f32) -> NAndXj
     let steps = table_steps(ieee::clamp(ratio, MIN_RATIO, SECOND_MAX_RATIO));
     let left = left_row(steps, 9);
     let frac = steps - left as f32;
-    let row = rows_at(left);
-    let n = (1.0 - frac) * row.n + frac * row.next_n;
-    let k_xj = (1.0 - frac) * row.k + frac * row.next_k;
+    let row = rows_at(&CORNER_TABLE, left);
+    let n = (1.0 - frac) * row.first + frac * row.next_first;
+    let k_xj = (1.0 - frac) * row.second + frac * row.next_second;
     NAndXj {
         n,
         xj_over_a: 1.0 - 1.0 / k_xj,
