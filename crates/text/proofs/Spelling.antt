@@ -33,6 +33,7 @@ digit-below b n c m e = go (digit_of c) e
         rw (suc-mul) (omega arith)
     fit d true false h e = absurd (cc)
     fit d false u h e = absurd (cc)
+
     go : (o : Option ℕ) → elim o [ None ↦ None | Some d ↦ cond (ltb d b) (cond (ltb (n * b + d) (2 ^ 64)) (Some (n * b + d)) None) None ] ≡ Some m → suc m ≤ suc n * b
     go None e = absurd (cc)
     go (Some d) e = fit d (ltb d b) (ltb (n * b + d) (2 ^ 64)) refl e

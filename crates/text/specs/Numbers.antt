@@ -13,8 +13,8 @@ digit_of b = cond (ltb b 48) None (cond (leb b 57) (Some (b - 48)) (cond (ltb b 
 unfoldable pub with_digit : ℕ → ℕ → ℕ → Option ℕ
 with_digit base n b =
     elim (digit_of b) [
-      None ↦ None
-    | Some d ↦ cond (ltb d base) (cond (ltb (n * base + d) (2 ^ 64)) (Some (n * base + d)) None) None
+      | None ↦ None
+      | Some d ↦ cond (ltb d base) (cond (ltb (n * base + d) (2 ^ 64)) (Some (n * base + d)) None) None
     ]
 
 -- the number that the digits spell behind those whose value is n

@@ -114,11 +114,7 @@ pub fn read_float<F: FloatWord>(s: &[u8]) -> Option<F>
 }
 
 // The last digits of a number, so many, which are all of them.
-fn write_digits<W: fmt::Write>(
-    f: &mut fmt::Formatter<W>,
-    n: u64,
-    digits: usize,
-) -> fmt::Result
+fn write_digits<W: fmt::Write>(f: &mut fmt::Formatter<W>, n: u64, digits: usize) -> fmt::Result
     requires all { n < 16 ^ digits }
     requires lower_bound { 1 ≤ digits }
     requires upper_bound { digits ≤ 16 }
