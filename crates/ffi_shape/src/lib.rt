@@ -205,13 +205,11 @@ fn corners_hold(shape: &[f32], p: Point) -> bool
     requires { length shape.now ≡ 89 }
     ensures { result ≡ corners_hold shape.now p true 4 0 }
 {
-    let mut k = 0;
-    while k < 4 {
+    for k in 0..4 {
         if corner_holds(shape, 22 * k, p) {
-            k += 1;
-        } else {
-            return false;
+            continue;
         }
+        return false;
     }
     true
 }

@@ -1,11 +1,8 @@
-use Prim.Native.Nat.{◌-◌, ◌≤◌}
+use Prim.Native.Nat.{◌-◌}
 use mathlib.Core.Path.{◌≡◌}
 use mathlib.Core.Bool.{true}
 use Rattle.ffi_shape.specs.Making.{corners_hold}
 use Rattle.ffi_shape.proofs.corners_hold.Given as goal
 
 abbrev pub invariant-loop-k : goal.invariant-loop-k
-invariant-loop-k l = (l.k ≤ 4) × (corners_hold l.shape l.p true 4 0 ≡ corners_hold l.shape l.p true (4 - l.k) l.k)
-
-abbrev pub decreases-loop-k : goal.decreases-loop-k
-decreases-loop-k l = 4 - l.k
+invariant-loop-k l = corners_hold l.shape l.p true 4 0 ≡ corners_hold l.shape l.p true (4 - l.k) l.k
