@@ -90,8 +90,8 @@ pub struct Outline {
 fn solve(top: Octant, right: Octant) -> BothCurves
     ensures { (result.top ≡ curves_of top) × (result.right ≡ curves_of right) }
 {
-    let [top_circle, right_circle] = octants::arcs([top, right]);
-    let [top_conics, right_conics] = octants::conics([top, right]);
+    let [top_circle, right_circle] = octants::circular_arc_points([top, right]);
+    let [top_conics, right_conics] = octants::superellipse_conics([top, right]);
     BothCurves {
         top: Curves {
             circle: top_circle,
@@ -282,8 +282,8 @@ fn draw_round(p: Quadrant, q: Quadrant, r: Quadrant, s: Quadrant) -> Corners
     let octants = [
         p.top, p.right, q.top, q.right, r.top, r.right, s.top, s.right,
     ];
-    let a = octants::arcs(octants);
-    let c = octants::conics(octants);
+    let a = octants::circular_arc_points(octants);
+    let c = octants::superellipse_conics(octants);
     Corners {
         first: round_one(p, both(a[0], a[1], c[0], c[1]), false),
         second: round_one(q, both(a[2], a[3], c[2], c[3]), true),

@@ -62,7 +62,7 @@ fn met(s: Start, x: f32) -> Point
 }
 
 // The superellipse arcs of N octants. The tangents fall, by as much as the slopes.
-pub fn conics<const N: usize>(o: [Octant; N]) -> [SuperellipseConics; N]
+pub fn superellipse_conics<const N: usize>(o: [Octant; N]) -> [SuperellipseConics; N]
     requires { N < 2 ^ 32 }
     ensures { result ≡ map conics_of o.entry }
 {
@@ -97,7 +97,7 @@ fn arc(o: Octant, t: Turn) -> [Point; 4]
 }
 
 // The circular arcs of N octants, each as a cubic: start, two controls, end.
-pub fn arcs<const N: usize>(o: [Octant; N]) -> [[Point; 4]; N]
+pub fn circular_arc_points<const N: usize>(o: [Octant; N]) -> [[Point; 4]; N]
     requires { N < 2 ^ 32 }
     ensures { result ≡ map circular_arc_points_of o.entry }
 {

@@ -3,4 +3,4 @@ use Rattle.corners.proofs.solve.Goals as goal
 
 pub returns : goal.returns
 unfolding curves_of
-returns c = (rw (c.arcs.ensures, c.conics.ensures), rw (c.arcs.ensures, c.conics.ensures))
+returns c = (rw (c.circular_arc_points.ensures, c.superellipse_conics.ensures), rw (c.circular_arc_points.ensures, c.superellipse_conics.ensures))

@@ -12,7 +12,7 @@ use Rattle.octants.specs.Octants.{start_of, ratio_of, met_of, conics_of}
 use Rattle.octants.specs.declared.Start.{Start}
 use Rattle.octants.specs.declared.Slopes.{Slopes}
 use Rattle.octants.specs.declared.End.{End}
-use Rattle.octants.proofs.conics.Goals as goal
+use Rattle.octants.proofs.superellipse_conics.Goals as goal
 
 abbrev root : Octant → Float
 root o = pow_of (one ⊖ pow_of (start_of o).y o.se_n) (one ⊘ o.se_n)

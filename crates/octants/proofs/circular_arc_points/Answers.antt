@@ -8,7 +8,7 @@ use Rattle.octant.specs.Binary32.{◌⊘◌}
 use Rattle.octant.specs.declared.Octant.{Octant}
 use Rattle.arcs.specs.Circle.{four, arc_points_of, circular_arc_points_of}
 use Rattle.octants.specs.declared.Turn.{Turn}
-use Rattle.octants.proofs.arcs.Goals as goal
+use Rattle.octants.proofs.circular_arc_points.Goals as goal
 
 abbrev turn : SinCos → Float → Turn
 turn t k = record { sin = t.sin; cos = t.cos; tan = k }
