@@ -1,6 +1,7 @@
 -- The program `inspect`: of each button of a panel file, whether its outline and its touch area keep together. Definitions only.
-use Rattle.std.specs.Prelude.{ℕ, ◌+◌, cond, List, [], ◌∷◌}
+use Rattle.std.specs.Prelude.{ℕ, ◌+◌, cond, List, [], ◌∷◌, Option, Some, None}
 use Rattle.panel_file.specs.declared.Button.{Button}
+use Rattle.panel_file.specs.declared.Counts.{Counts}
 use Rattle.panel_file.specs.declared.Record.{Record}
 use Rattle.panel_file.specs.declared.Record.TheVariants.{Button as ButtonRecord, Touch as TouchRecord}
 use Rattle.panel_file.specs.Panel.{Answer, done, refused, records_of}
@@ -21,15 +22,10 @@ finding_of index bounds (RefusedBy cause) = Refused index cause
 unfoldable pub finding : ℕ → Button → Line
 finding index b = finding_of index (record { min = b.min; max = b.max }) (shape_of b)
 
--- a record's lines: a touch has none
-unfoldable pub findings_at : Record → ℕ → List Line
-findings_at (ButtonRecord b) index = finding index b ∷ []
-findings_at (TouchRecord p) index = []
-
--- the index of the next button
-unfoldable pub next_index : Record → ℕ → ℕ
-next_index (ButtonRecord b) index = index + 1
-next_index (TouchRecord p) index = index
+-- a record's line, from the counts of the records in front of it: a touch has none
+unfoldable pub finding_at : Counts → Record → Option Line
+finding_at c (ButtonRecord b) = Some (finding c.buttons b)
+finding_at c (TouchRecord p) = None
 
 -- The lines of some records, the first button's index being the one given.
 unfoldable pub findings_of : ℕ → List Record → List Line

@@ -1,5 +1,5 @@
 -- How a report is written, one record after the other. Cited by the contracts of inner functions. Definitions only.
-use Rattle.std.specs.Prelude.{ℕ, ◌≡◌, List, map, length, take, drop}
+use Rattle.std.specs.Prelude.{ℕ, ◌≡◌, List, map, length, take, drop, get_or, Option, Some}
 use Rattle.panel_file.specs.declared.Counts.{Counts}
 use Rattle.panel_file.specs.declared.Record.{Record}
 use Rattle.panel_file.specs.declared.Record.TheVariants.{Button as ButtonRecord, Touch as TouchRecord}
@@ -12,6 +12,10 @@ use Rattle.report.specs.Report.{shape_line, touch_line}
 unfoldable pub line_for : Record → ℕ → ℕ → Line
 line_for (ButtonRecord b) index code = shape_line index (shape_of b)
 line_for (TouchRecord p) index code = touch_line (place_of code)
+
+-- a record's line, from the counts of the records in front of it and the places of the touches
+abbrev pub line_at : List ℕ → Counts → Record → Option Line
+line_at touched c r = Some (line_for r c.buttons (get_or touched c.touches 0))
 
 -- how many records of each kind there are, with one more
 abbrev pub passed : Counts → Record → Counts

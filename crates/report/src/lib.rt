@@ -9,10 +9,10 @@ ghost use Rattle.panel_file.specs.File.{records};
 ghost use Rattle.touch.specs.Touch.{place_of};
 ghost use Rattle.report_line.specs.Text.{text_of, Over};
 ghost use Rattle.report.specs.Report.{shape_line, touch_line, lines_of, report_of};
-ghost use Rattle.report.specs.Lines.{line_for, Placed};
+ghost use Rattle.report.specs.Lines.{line_for, line_at, Placed};
 
 use panel_file::{Counts, PanelFile, Record};
-use report_line::Line;
+use report_line::{Line, Lines};
 use shape::{RoundSuperellipse, ShapeError};
 use touch::{MOST_TOUCHES, NOWHERE};
 
@@ -49,19 +49,27 @@ fn line_for(record: Record, index: usize, code: u32) -> Line
     }
 }
 
+// The places of a file's touches: what they tell of each record.
+#[derive(Drop)]
+struct Places {
+    touched: [u32; 5461],
+}
+
+impl Lines for Places {
+    ghost line = { λ p. line_at p.touched };
+
+    fn line(&self, counts: Counts, record: Record) -> Option<Line> {
+        Some(line_for(record, counts.buttons, self.touched[counts.touches]))
+    }
+}
+
 // The report on a good file, with the places of its touches.
-fn put_lines(file: &PanelFile, touched: &[u32; 5461], out: &mut [u8; 393288]) -> usize
-    requires { Placed (records file.now) touched.now 0 (records file.now) }
+fn put_lines(file: &PanelFile, places: &Places, out: &mut [u8; 393288]) -> usize
+    requires { Placed (records file.now) places.now.touched 0 (records file.now) }
     ensures prefix_len { IsPrefixLen result out.new }
     ensures over { Over out.old 0 (text_of (lines_of (records file.now) 0 (records file.now))) result out.new }
 {
-    let mut n = 0;
-    let mut counts = Counts::default();
-    for record in file.records() {
-        let line = line_for(record, counts.buttons, touched[counts.touches]);
-        n = report_line::put_line(line, out, n);
-        counts = counts.with(record.kind());
-    }
+    let n = report_line::put_records(places, file, out);
     report_line::put_line(Line::End, out, n)
 }
 
@@ -73,9 +81,11 @@ pub fn report(file: &[u8], out: &mut [u8; 393288]) -> usize
 {
     match PanelFile::new(file) {
         Ok(file) => {
-            let mut touched = [NOWHERE; MOST_TOUCHES];
-            touch::places(&file, &mut touched);
-            put_lines(&file, &touched, out)
+            let mut places = Places {
+                touched: [NOWHERE; MOST_TOUCHES],
+            };
+            touch::places(&file, &mut places.touched);
+            put_lines(&file, &places, out)
         }
         Err(broken) => report_line::put_line(
             Line::Broken(usize::from(broken.number()), broken.offset),

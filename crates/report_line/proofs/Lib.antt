@@ -1,2 +1,3 @@
 pub mod Adding
 pub mod Writing
+pub mod Listing

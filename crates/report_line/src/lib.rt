@@ -2,11 +2,18 @@
 
 #![tactic(auto)]
 
-ghost use Rattle.std.specs.Prelude.{◌≡◌, ◌++◌, ◌+◌, ◌≤◌, length, take};
+ghost use Rattle.std.specs.Prelude.{◌≡◌, ◌++◌, ◌+◌, ◌<◌, ◌≤◌, length, take, Option};
 ghost use Rattle.io.specs.Counts.{IsPrefixLen};
+ghost use Rattle.panel_file.specs.declared.Counts.{Counts};
+ghost use Rattle.panel_file.specs.declared.Record.{Record};
+ghost use Rattle.panel_file.specs.File.{records};
 ghost use Rattle.text.specs.Written.{decimal_text};
+ghost use Rattle.report_line.specs.declared.Line.{Line};
 ghost use Rattle.report_line.specs.Line.{Added, shape_text, numbered, line_of};
-ghost use Rattle.report_line.specs.Text.{Over};
+ghost use Rattle.report_line.specs.Text.{text_of, Over};
+ghost use Rattle.report_line.specs.Records.{none_before, lines_at, lines_by};
+
+use panel_file::{Counts, PanelFile, Record};
 
 // A line has at most 72 bytes and a record at least 12, so a file of 65,536 bytes has a report of
 // at most 6 times its length, and the last line.
@@ -16,6 +23,8 @@ pub const ROOM: usize = 393288;
 pub enum Line {
     // A button's index, and the verbs and points of its outline.
     Shape(usize, usize, usize),
+    // Stays a number: the definitions (`Outcome`, `Answer`) know a cause by its number alone, so a line of
+    // `ShapeError` or `Broken` had no value at their other numbers.
     // The index of a button whose shape is refused, and the cause's number.
     Refused(usize, usize),
     // The index of the button that a touch goes to.
@@ -113,4 +122,40 @@ pub fn put_line(line: Line, out: &mut [u8; 393288], at: usize) -> usize
     let mut line_text = [0u8; 72];
     let n = text_of(line, &mut line_text);
     text::put(out, at, &line_text[..n])
+}
+
+// What a report tells of each record of a good file.
+pub trait Lines {
+    // A record's line, if it has one, from the counts of the records in front of it.
+    ghost line: { Self → Counts → Record → Option Line };
+
+    fn line(&self, counts: Counts, record: Record) -> Option<Line>
+        requires { counts.buttons + counts.touches < 5461 }
+        ensures { result ≡ line self.now counts «record» };
+}
+
+// The text of a line, if there is one, from index `at` on; the answer is the index past it.
+fn put_any(line: Option<Line>, out: &mut [u8; 393288], at: usize) -> usize
+    requires { at + 72 ≤ 393288 }
+    ensures upper_bound { result ≤ at + 72 }
+    ensures over { Over out.old at (text_of (lines_at line)) result out.new }
+{
+    match line {
+        Some(line) => put_line(line, out, at),
+        None => at,
+    }
+}
+
+// The lines of a good file's records, from the start of out; the answer is their length.
+pub fn put_records<L: Lines>(lines: &L, file: &PanelFile, out: &mut [u8; 393288]) -> usize
+    ensures upper_bound { (result ≤ 393192) × IsPrefixLen result out.new }
+    ensures over { Over out.old 0 (text_of (lines_by (L.line lines.now) none_before (records file.now))) result out.new }
+{
+    let mut n = 0;
+    let mut counts = Counts::default();
+    for record in file.records() {
+        n = put_any(lines.line(counts, record), out, n);
+        counts = counts.with(record.kind());
+    }
+    n
 }

@@ -7,16 +7,19 @@ use Rattle.report_line.specs.declared.Line.TheVariants.{Broken}
 use Rattle.report_line.specs.Line.{line_of}
 use Rattle.report_line.specs.Text.{text_of}
 use Rattle.report_line.proofs.Writing.{one_line, all_over}
-use Rattle.inspection_report.specs.Findings.{findings_of, inspected, inspection_of}
+use Rattle.report_line.specs.Records.{none_before, lines_by}
+use Rattle.inspection_report.specs.Findings.{finding_at, inspected, inspection_of}
+use Rattle.inspection_report.proofs.Finding.{findings_told}
 use Rattle.inspection_report.proofs.inspect.Goals as goal
 
 pub returns-in-Ok : goal.returns-in-Ok
 unfolding inspection_of inspected opened_of
 returns-in-Ok c =
-    let e : text_of (inspection_of c.args.file.now) ≡ text_of (findings_of 0 (records c.in-Ok.file)) =
-    ap (λ (x : Answer (List Record)). text_of (inspected x)) (sym c.in-Ok.ensures) in
-    let w = all_over _ _ _ _ c.put_findings.ensures.over in
-    rw e (record { prefix_len = c.put_findings.ensures.prefix_len; value = w.0; out_after = w.1 })
+    let all = records c.in-Ok.file in
+    let e : text_of (inspection_of c.args.file.now) ≡ text_of (lines_by finding_at none_before all) =
+    ap (λ (x : Answer (List Record)). text_of (inspected x)) (sym c.in-Ok.ensures) ∙ ap text_of (findings_told none_before all) in
+    let w = all_over _ _ _ _ c.put_records.ensures.over in
+    rw e (record { prefix_len = c.put_records.ensures.upper_bound.1; value = w.0; out_after = w.1 })
 
 pub returns-in-Err : goal.returns-in-Err
 unfolding inspection_of inspected opened_of

@@ -1,0 +1,54 @@
+-- Laws of the lines of records, one behind the other. Assumes nothing.
+use Rattle.std.proofs.Common.{◌≡◌, ℕ, ◌+◌, List, [], ◌∷◌, ◌++◌, length, take, drop, Option, Some, None, refl, sym, ap, ◌∙◌, arith}
+use mathlib.Core.List.{append-nil}
+use native.Mathlib.Nat.{add-zero, zero-add}
+use lib.ListN.{length-append, length-take}
+use Rattle.io.specs.Counts.{IsPrefixLen}
+use Rattle.panel_file.specs.declared.Counts.{Counts}
+use Rattle.panel_file.specs.declared.Record.{Record}
+use Rattle.panel_file.specs.Panel.{counted_of, kind_of_record}
+use Rattle.report_line.specs.declared.Line.{Line}
+use Rattle.report_line.specs.Line.{line_of}
+use Rattle.report_line.specs.Text.{text_of, Over}
+use Rattle.report_line.specs.Records.{lines_at, lines_by}
+use Rattle.report_line.proofs.Writing.{one_line}
+
+-- the text of a record's lines and of others
+lines_then : (o : Option Line) (ls : List Line) → text_of (lines_at o ++ ls) ≡ text_of (lines_at o) ++ text_of ls
+unfolding lines_at text_of
+lines_then None ls = refl
+lines_then (Some l) ls = ap (λ (t : List ℕ). t ++ text_of ls) (sym (append-nil (line_of l)))
+
+-- a record's lines, then those of the records to come
+pub next_lines : (line : Counts → Record → Option Line) (c : Counts) (r : Record) (rs : List Record)
+    → text_of (lines_by line c (r ∷ rs)) ≡ text_of (lines_at (line c r)) ++ text_of (lines_by line (counted_of c (kind_of_record r)) rs)
+unfolding lines_by
+next_lines line c r rs = lines_then (line c r) (lines_by line (counted_of c (kind_of_record r)) rs)
+
+-- no text over l
+over_none : (l : List ℕ) (at : ℕ) → Over l at [] at l
+over_none l at = record { past = sym (add-zero at); front = sym (append-nil (take at l)); rest = refl }
+
+module _ (l : List ℕ) (at : ℕ) (o : Option Line) where
+  pub over_some : (line : Line) (r : ℕ) (l' : List ℕ) → o ≡ Some line → Over l at (line_of line) r l' → Over l at (text_of (lines_at o)) r l'
+  unfolding lines_at
+  over_some line r l' e w = rw (e, one_line line) w
+
+  pub over_no : o ≡ None → Over l at (text_of (lines_at o)) at l
+  unfolding lines_at text_of
+  over_no e = rw e (over_none l at)
+
+-- where no records are left, no lines are
+pub none_left : (line : Counts → Record → Option Line) (t : List ℕ) (c : Counts) (rs : List Record) → rs ≡ [] → t ++ text_of (lines_by line c rs) ≡ t
+unfolding lines_by text_of
+none_left line t c rs e = rw e (append-nil t)
+
+-- what is in front of a text and the text are as long as the index past it says
+pub over_counts : (l : List ℕ) (n : ℕ) (t : List ℕ) (r : ℕ) (l' : List ℕ) → IsPrefixLen n l → Over l n t r l' → IsPrefixLen r l'
+over_counts l n t r l' c o =
+    let e : length (take r l') ≡ n + length t = ap length o.front ∙ length-append (take n l) t ∙ ap (λ (k : ℕ). k + length t) (sym c.1) in
+    (omega (arith, length-take r l', o.past), o.past ∙ sym e)
+
+-- all that was written, where nothing is to come
+pub over_whole : (l₀ l : List ℕ) (n : ℕ) (whole : List ℕ) → drop n l ≡ drop n l₀ → whole ≡ take n l → IsPrefixLen n l → Over l₀ 0 whole n l
+over_whole l₀ l n whole kept e c = record { past = c.1 ∙ ap length (sym e) ∙ sym (zero-add (length whole)); front = sym e; rest = kept }
