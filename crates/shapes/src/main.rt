@@ -9,6 +9,7 @@
 mod fields;
 
 use fields::Fields;
+use lines::{Reader, TooLong};
 use shape::{RoundSuperellipse, ShapeError};
 use std::io;
 use std::io::Read;
@@ -38,31 +39,26 @@ fn answer(rt: &impl Print, line: &[u8]) -> io::Result<()> {
     }
 }
 
-// One line, of which `held` bytes are held, one more than there is room for where it is too long.
-fn finish(rt: &impl Print, line: &[u8], held: usize) -> io::Result<()> {
-    if held > line.len() {
-        return rt.println("bad");
+fn finish(rt: &impl Print, line: Result<&[u8], TooLong>) -> io::Result<()> {
+    match line {
+        Ok(line) => answer(rt, line),
+        Err(_) => rt.println("bad"),
     }
-    answer(rt, &line[0..held])
 }
 
-// A proved loop has to end, and nothing says that the input does: the turns are counted down from
-// a number that no run uses up.
+// A proved loop has to end, and nothing says that the input does: no run uses up so many turns.
 fn answer_all<R: Read>(
     rt: &impl Print,
     input: &mut R,
     piece: &mut [u8],
     line: &mut [u8],
 ) -> io::Result<()> {
-    let mut r = lines::new();
-    let mut turns = u64::MAX;
-    while turns > 0 {
-        r = lines::next(input, r, piece, line);
-        finish(rt, line, r.held)?;
-        if r.ended {
-            return Ok(());
-        }
-        turns -= 1;
+    let mut reader = Reader::new();
+    for _ in 0..u64::MAX {
+        let Some(taken) = reader.next(input, piece, line) else {
+            break;
+        };
+        finish(rt, taken)?;
     }
     Ok(())
 }

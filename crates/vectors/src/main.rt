@@ -7,15 +7,15 @@
 
 mod functions;
 
+use lines::{Reader, TooLong};
 use std::io;
 use std::io::Read;
 
-// One line, of which `held` bytes are held, one more than there is room for where it is too long.
-fn finish(rt: &impl Print, line: &[u8], held: usize) -> io::Result<()> {
-    if held > line.len() {
+fn finish(rt: &impl Print, line: Result<&[u8], TooLong>) -> io::Result<()> {
+    let Ok(line) = line else {
         return rt.println("bad");
-    }
-    let Some((name, rest)) = text::split_word(&line[..held]) else {
+    };
+    let Some((name, rest)) = text::split_word(line) else {
         return Ok(());
     };
     match functions::answer_to(name, rest) {
@@ -24,23 +24,19 @@ fn finish(rt: &impl Print, line: &[u8], held: usize) -> io::Result<()> {
     }
 }
 
-// A proved loop has to end, and nothing says that the input does: the turns are counted down from
-// a number that no run uses up.
+// A proved loop has to end, and nothing says that the input does: no run uses up so many turns.
 fn answer_all<R: Read>(
     rt: &impl Print,
     input: &mut R,
     piece: &mut [u8],
     line: &mut [u8],
 ) -> io::Result<()> {
-    let mut r = lines::new();
-    let mut turns = u64::MAX;
-    while turns > 0 {
-        r = lines::next(input, r, piece, line);
-        finish(rt, line, r.held)?;
-        if r.ended {
-            return Ok(());
-        }
-        turns -= 1;
+    let mut reader = Reader::new();
+    for _ in 0..u64::MAX {
+        let Some(taken) = reader.next(input, piece, line) else {
+            break;
+        };
+        finish(rt, taken)?;
     }
     Ok(())
 }
