@@ -6,6 +6,7 @@
 ghost use Rattle.std.specs.Prelude.{◌≡◌, ◌≤◌, length, IfOk, IfSome};
 ghost use Rattle.lines.specs.Lines.{fresh};
 
+use std::io;
 use std::io::Read;
 use text::Class;
 
@@ -99,4 +100,26 @@ impl Reader {
         };
         Some(Ok(&line[..n]))
     }
+}
+
+// Every line to `visit`, until it answers false. A proved loop has to end, and nothing says that the input
+// does: no run uses up so many turns.
+pub fn for_each<R: Read, F: FnMut(Result<&[u8], TooLong>) -> io::Result<bool>>(
+    input: &mut R,
+    piece: &mut [u8],
+    line: &mut [u8],
+    mut visit: F,
+) -> io::Result<()>
+    requires { F.IsAlwaysCallable visit }
+{
+    let mut reader = Reader::new();
+    for _ in 0..u64::MAX {
+        let Some(taken) = reader.next(input, piece, line) else {
+            break;
+        };
+        if !visit(taken)? {
+            break;
+        }
+    }
+    Ok(())
 }

@@ -242,7 +242,7 @@ impl Session {
         }
     }
 
-    // One line; false at a bad one, which ends it all.
+    // One line; false at a bad one, which ends it all: nothing is current then.
     pub fn take_line(&mut self, rt: &impl Print, line: Result<&[u8], TooLong>) -> io::Result<bool> {
         self.line = self.line.saturating_add(1);
         let taken = match line {
@@ -253,6 +253,7 @@ impl Session {
             Ok(()) => Ok(true),
             Err(Refusal::BadLine) => {
                 answers::write(rt, Reply::BadLine(self.line))?;
+                self.current = Current::Nothing;
                 Ok(false)
             }
             Err(Refusal::Io(e)) => Err(e),

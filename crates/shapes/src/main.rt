@@ -9,10 +9,9 @@
 mod fields;
 
 use fields::Fields;
-use lines::{Reader, TooLong};
+use lines::TooLong;
 use shape::{RoundSuperellipse, ShapeError};
 use std::io;
-use std::io::Read;
 
 fn write_made(rt: &impl Print, made: Result<RoundSuperellipse, ShapeError>) -> io::Result<()> {
     match made {
@@ -46,25 +45,11 @@ fn finish(rt: &impl Print, line: Result<&[u8], TooLong>) -> io::Result<()> {
     }
 }
 
-// A proved loop has to end, and nothing says that the input does: no run uses up so many turns.
-fn answer_all<R: Read>(
-    rt: &impl Print,
-    input: &mut R,
-    piece: &mut [u8],
-    line: &mut [u8],
-) -> io::Result<()> {
-    let mut reader = Reader::new();
-    for _ in 0..u64::MAX {
-        let Some(taken) = reader.next(input, piece, line) else {
-            break;
-        };
-        finish(rt, taken)?;
-    }
-    Ok(())
-}
-
 fn main(rt: HostRuntime) -> io::Result<()> {
     let mut piece = [0u8; 65536];
     let mut line = [0u8; 1024];
-    answer_all(&rt, &mut rt.stdin(), &mut piece, &mut line)
+    lines::for_each(&mut rt.stdin(), &mut piece, &mut line, |taken| {
+        finish(&rt, taken)?;
+        Ok(true)
+    })
 }
