@@ -84,9 +84,9 @@ fn draw_at(
     points: &mut [f32],
     x: f32,
 ) -> io::Result<Builder> {
-    let p = Point { x: x, y: 0.0 };
+    let p = Point { x, y: 0.0 };
     let q = Point { x: x + 1.0, y: 0.5 };
-    let r = Point { x: x, y: -1.25 };
+    let r = Point { x, y: -1.25 };
     match face {
         Face::ByValue => by_value(rt, b, verbs, points, p, q, r),
         Face::Lent => over_lent(rt, b, verbs, points, p, q, r),
@@ -105,7 +105,7 @@ fn draw(
     let mut x = -1.75;
     for _ in 0..4u8 {
         held = draw_at(rt, face, held, verbs, points, x)?;
-        x = x + 1.5;
+        x += 1.5;
     }
     lines::write_stream(rt, held, verbs, points)
 }
@@ -114,13 +114,13 @@ fn draw(
 fn list(rt: &impl Print, face: Face, b: Builder, v: usize, f: usize) -> io::Result<()> {
     let mut verbs = [0u8; 16];
     let mut points = [0.0f32; 32];
-    if v > 16 {
+    let Some(verbs) = verbs.get_mut(..v) else {
         return Ok(());
-    }
-    if f > 32 {
+    };
+    let Some(points) = points.get_mut(..f) else {
         return Ok(());
-    }
-    draw(rt, face, b, &mut verbs[0..v], &mut points[0..f])
+    };
+    draw(rt, face, b, verbs, points)
 }
 
 // Enough room, too little, none, and a record that does not suit its buffers.

@@ -1,7 +1,7 @@
 -- A reader of lines, before it has read anything. Definitions only.
-use Rattle.std.specs.Prelude.{false}
+use Rattle.std.specs.Prelude.{false, Some}
 use Rattle.lines.specs.declared.Reader.{Reader}
 
 -- nothing to take, nothing held
 abbrev pub fresh : Reader
-fresh = record { at = 0; end = 0; held = 0; ended = false }
+fresh = record { at = 0; end = 0; held = Some 0; ended = false }

@@ -3,130 +3,123 @@
 
 #![tactic(auto)]
 
-ghost use Rattle.std.specs.Prelude.{◌≡◌, ◌+◌, ◌≤◌, length};
+ghost use Rattle.std.specs.Prelude.{◌≡◌, ◌≤◌, length, IfOk, IfSome};
 ghost use Rattle.lines.specs.Lines.{fresh};
 
+use std::io;
 use std::io::Read;
 use text::Class;
 
-// The part of the piece that is still to be taken, how many bytes of the line are held, one more than
-// there is room for where it is too long, and whether the input has ended.
+// A line that there is no room for.
+#[derive(Clone, Copy)]
+pub struct TooLong;
+
+// The part of the piece that is still to be taken, how many bytes of the line are held, none where it is
+// too long, and whether the input has ended.
 #[derive(Drop)]
 pub struct Reader {
     pub at: usize,
     pub end: usize,
-    pub held: usize,
+    pub held: Option<usize>,
     pub ended: bool,
 }
 
-pub fn new() -> Reader
-    ensures { result ≡ fresh }
-{
-    Reader {
-        at: 0,
-        end: 0,
-        held: 0,
-        ended: false,
-    }
-}
-
 // A part of a line behind the bytes already held, and how many are held then.
-fn hold(line: &mut [u8], held: usize, part: &[u8]) -> usize
-    ensures { result ≤ length line.old + 1 }
+fn hold(line: &mut [u8], held: Option<usize>, part: &[u8]) -> Option<usize>
+    ensures { IfSome result (λ n. n ≤ length line.old) }
 {
-    if held > line.len() {
-        return line.len() + 1;
+    let at = held?;
+    if at > line.len() || part.len() > line.len() - at {
+        return None;
     }
-    if part.len() > line.len() - held {
-        return line.len() + 1;
-    }
-    let next = held + part.len();
-    text::put(line, held, part);
-    next
+    let next = at + part.len();
+    text::put(line, at, part);
+    Some(next)
 }
 
-// A new piece, once the last is taken.
-fn refill<R: Read>(input: &mut R, r: Reader, piece: &mut [u8]) -> Reader
-    ensures { result.held ≡ r.held }
-{
-    if r.at < r.end {
-        return r;
-    }
-    let got = input.read(piece).unwrap_or(0);
-    if got == 0 {
-        return Reader {
+impl Reader {
+    pub fn new() -> Reader
+        ensures { result ≡ fresh }
+    {
+        Reader {
             at: 0,
             end: 0,
-            held: r.held,
-            ended: true,
-        };
-    }
-    Reader {
-        at: 0,
-        end: got,
-        held: r.held,
-        ended: false,
-    }
-}
-
-// What was taken of a piece, and whether a line ends there.
-#[derive(Drop)]
-struct Part {
-    reader: Reader,
-    whole: bool,
-}
-
-fn take_part(r: Reader, piece: &[u8], line: &mut [u8]) -> Part
-    ensures { result.reader.held ≤ length line.old + 1 }
-{
-    let at = r.at;
-    let end = r.end;
-    if end > piece.len() {
-        return Part {
-            reader: new(),
-            whole: false,
-        };
-    }
-    if at > end {
-        return Part {
-            reader: new(),
-            whole: false,
-        };
-    }
-    let n = text::leading(&piece[at..end], Class::Line);
-    let stop = at + n;
-    let held = hold(line, r.held, &piece[at..stop]);
-    Part {
-        reader: Reader {
-            at: stop + 1,
-            end,
-            held,
+            held: Some(0),
             ended: false,
-        },
-        whole: stop < end,
+        }
+    }
+
+    // A new piece, once the last is taken.
+    fn refill<R: Read>(&mut self, input: &mut R, piece: &mut [u8])
+        ensures { self.new.held ≡ self.old.held }
+    {
+        if self.at < self.end {
+            return;
+        }
+        self.at = 0;
+        self.end = input.read(piece).unwrap_or(0);
+        self.ended = self.end == 0;
+    }
+
+    // Whether the line ends in this piece.
+    fn take_part(&mut self, piece: &[u8], line: &mut [u8]) -> bool
+        ensures { IfSome self.new.held (λ n. n ≤ length line.old) }
+    {
+        let Some(rest) = piece.get(self.at..self.end) else {
+            *self = Reader::new();
+            return false;
+        };
+        let n = text::leading(rest, Class::Line);
+        self.held = hold(line, self.held, &rest[..n]);
+        self.at += n + 1;
+        n < rest.len()
+    }
+
+    // The next line, none behind the last. The last line, with which the input ends, may be empty. A proved
+    // loop has to end, and nothing says that the input does: no run uses up so many turns.
+    pub fn next<'l, R: Read>(
+        &mut self,
+        input: &mut R,
+        piece: &mut [u8],
+        line: &'l mut [u8],
+    ) -> Option<Result<&'l [u8], TooLong>>
+        ensures { IfSome result (λ a. IfOk a (λ held. length held.now ≤ length line.old)) }
+    {
+        if self.ended {
+            return None;
+        }
+        self.held = Some(0);
+        for _ in 0..u64::MAX {
+            self.refill(input, piece);
+            if self.ended || self.take_part(piece, line) {
+                break;
+            }
+        }
+        let Some(n) = self.held else {
+            return Some(Err(TooLong));
+        };
+        Some(Ok(&line[..n]))
     }
 }
 
-// The next line, in the first `held` bytes of its buffer. The last line, with which the input ends, may be
-// empty. A proved loop has to end, and nothing says that the input does: the turns are counted down from a
-// number that no run uses up.
-pub fn next<R: Read>(input: &mut R, r: Reader, piece: &mut [u8], line: &mut [u8]) -> Reader
-    ensures { result.held ≤ length line.new + 1 }
+// Every line to `visit`, until it answers false. A proved loop has to end, and nothing says that the input
+// does: no run uses up so many turns.
+pub fn for_each<R: Read, F: FnMut(Result<&[u8], TooLong>) -> io::Result<bool>>(
+    input: &mut R,
+    piece: &mut [u8],
+    line: &mut [u8],
+    mut visit: F,
+) -> io::Result<()>
+    requires { F.IsAlwaysCallable visit }
 {
-    let mut r = r;
-    r.held = 0;
-    let mut turns = u64::MAX;
-    while turns > 0 {
-        r = refill(input, r, piece);
-        if r.ended {
-            return r;
+    let mut reader = Reader::new();
+    for _ in 0..u64::MAX {
+        let Some(taken) = reader.next(input, piece, line) else {
+            break;
+        };
+        if !visit(taken)? {
+            break;
         }
-        let p = take_part(r, piece, line);
-        r = p.reader;
-        if p.whole {
-            return r;
-        }
-        turns -= 1;
     }
-    r
+    Ok(())
 }

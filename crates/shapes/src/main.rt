@@ -9,9 +9,9 @@
 mod fields;
 
 use fields::Fields;
+use lines::TooLong;
 use shape::{RoundSuperellipse, ShapeError};
 use std::io;
-use std::io::Read;
 
 fn write_made(rt: &impl Print, made: Result<RoundSuperellipse, ShapeError>) -> io::Result<()> {
     match made {
@@ -38,37 +38,18 @@ fn answer(rt: &impl Print, line: &[u8]) -> io::Result<()> {
     }
 }
 
-// One line, of which `held` bytes are held, one more than there is room for where it is too long.
-fn finish(rt: &impl Print, line: &[u8], held: usize) -> io::Result<()> {
-    if held > line.len() {
-        return rt.println("bad");
+fn finish(rt: &impl Print, line: Result<&[u8], TooLong>) -> io::Result<()> {
+    match line {
+        Ok(line) => answer(rt, line),
+        Err(_) => rt.println("bad"),
     }
-    answer(rt, &line[0..held])
-}
-
-// A proved loop has to end, and nothing says that the input does: the turns are counted down from
-// a number that no run uses up.
-fn answer_all<R: Read>(
-    rt: &impl Print,
-    input: &mut R,
-    piece: &mut [u8],
-    line: &mut [u8],
-) -> io::Result<()> {
-    let mut r = lines::new();
-    let mut turns = u64::MAX;
-    while turns > 0 {
-        r = lines::next(input, r, piece, line);
-        finish(rt, line, r.held)?;
-        if r.ended {
-            return Ok(());
-        }
-        turns -= 1;
-    }
-    Ok(())
 }
 
 fn main(rt: HostRuntime) -> io::Result<()> {
     let mut piece = [0u8; 65536];
     let mut line = [0u8; 1024];
-    answer_all(&rt, &mut rt.stdin(), &mut piece, &mut line)
+    lines::for_each(&mut rt.stdin(), &mut piece, &mut line, |taken| {
+        finish(&rt, taken)?;
+        Ok(true)
+    })
 }
