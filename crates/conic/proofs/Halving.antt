@@ -1,14 +1,14 @@
--- How `halve` goes on: the three equations that code follows, and the induction that laws follow.
+-- How `halve` goes on: the equations that code follows, and the induction that laws follow.
 use mathlib.Core.Path.{◌≡◌, refl, sym, subst}
 use mathlib.Core.List.{List, [], ◌∷◌, ◌++◌}
-use mathlib.Core.Bool.{Bool, true, false, cond}
-use Prim.Native.Nat.{ℕ, zero, suc, ◌+◌, ◌-◌, ◌^◌}
+use mathlib.Core.Bool.{Bool, true, false, cond, true≢false}
+use Prim.Native.Nat.{ℕ, zero, suc, ◌+◌, ◌-◌, ◌^◌, ◌<◌}
 use native.Mathlib.Nat.{two-pow-succ}
 use native.Mathlib.Numerals.{sub-one}
 use native.Mathlib.Omega.{arith}
 use Rattle.conic.specs.declared.Conic.{Conic}
 use Rattle.conic.specs.Conic.{Halves, flat_of, split_of}
-use Rattle.conic.specs.Halving.{Piece, piece_of, halve, word_of}
+use Rattle.conic.specs.Halving.{Piece, piece_of, is_one_quad, halve, word_of}
 
 -- no halving left
 pub halve-none : (n : ℕ) (c : Conic) (start : ℕ) → n ≡ 0 → halve n c start ≡ piece_of c start (2 ^ n) ∷ []
@@ -27,6 +27,23 @@ pub halve-split : (n : ℕ) (c : Conic) (h : Halves) (start : ℕ) → (n ≡ 0 
 unfolding halve
 halve-split zero c h start z e q = absurd (z refl)
 halve-split (suc n) c h start z e q = rw (e, sub-one (suc n), q)
+
+-- the same by the one test of the code
+pub halve_one : (n : ℕ) (c : Conic) (start : ℕ) → is_one_quad n c ≡ true → halve n c start ≡ piece_of c start (2 ^ n) ∷ []
+unfolding is_one_quad
+halve_one zero c start e = halve-none zero c start refl
+halve_one (suc n) c start e = halve_flat (suc n) c start e
+
+pub halve_two : (n : ℕ) (c : Conic) (h : Halves) (start : ℕ) → is_one_quad n c ≡ false → h ≡ split_of c → halve n c start ≡ halve (n - 1) h.left start ++ halve (n - 1) h.right (start + 2 ^ (n - 1))
+unfolding is_one_quad
+halve_two zero c h start e q = absurd (true≢false e)
+halve_two (suc n) c h start e q = halve-split (suc n) c h start (λ z. omega (arith, z)) e q
+
+-- only what may be halved is split
+pub split_some : (n : ℕ) (c : Conic) → is_one_quad n c ≡ false → 0 < n
+unfolding is_one_quad
+split_some zero c e = absurd (true≢false e)
+split_some (suc n) c e = omega arith
 
 -- a half has half the span
 pub half-span : (n : ℕ) → (n ≡ 0 → ⊥) → 2 ^ n ≡ 2 ^ (n - 1) + 2 ^ (n - 1)

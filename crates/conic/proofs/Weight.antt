@@ -1,5 +1,5 @@
 -- A number is within t of 0 where it is neither above t nor below -t. Assumes nothing.
-use mathlib.Core.Path.{◌≡◌, refl, sym, ap, ap₂, ◌∙◌, subst}
+use mathlib.Core.Path.{◌≡◌, refl, sym, ap, ap₂, subst}
 use mathlib.Core.Bool.{Bool, true, false, ◌&&◌, ◌||◌}
 use Prim.Native.Nat.{ℕ, zero, suc, ◌+◌, ◌*◌}
 use native.Mathlib.Omega.{arith}
@@ -50,11 +50,5 @@ thousandth-is : thousandth ≡ fin false 8589935 (negsuc 32)
 unfolding of_bits
 thousandth-is = refl
 
-within : (x : Float) → (le x thousandth && le (neg thousandth) x) ≡ le (abs_of x) thousandth
+pub within : (x : Float) → (le x thousandth && le (neg thousandth) x) ≡ le (abs_of x) thousandth
 within x = subst (λ (t : Float). (le x t && le (neg t) x) ≡ le (abs_of x) t) (sym thousandth-is) (within-is x 8589935 (negsuc 32))
-
-pub below_too : (x : Float) → le x thousandth ≡ true → le (neg thousandth) x ≡ le (abs_of x) thousandth
-below_too x h = sym (ap (λ (b : Bool). b && le (neg thousandth) x) h) ∙ within x
-
-pub above : (x : Float) → le x thousandth ≡ false → false ≡ le (abs_of x) thousandth
-above x h = sym (ap (λ (b : Bool). b && le (neg thousandth) x) h) ∙ within x

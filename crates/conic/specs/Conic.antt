@@ -9,11 +9,9 @@ use Rattle.ieee.specs.Sqrt.{sqrt_of}
 use Rattle.geometry.specs.declared.Point.{Point}
 use Rattle.geometry.specs.Point.{one, add_of, sub_of, scale_of, shrink_of, length_squared_of, length_of, finite_point}
 use Rattle.conic.specs.declared.Conic.{Conic}
-use Rattle.conic.specs.declared.Subdivision.{Subdivision}
+use Rattle.conic.specs.declared.Halves as code
 use Rattle.conic.specs.declared.Lowered.{Lowered}
 use Rattle.conic.specs.declared.Lowered.TheVariants.{Line, Curve}
-use Rattle.conic.specs.declared.Flatness.{Flatness}
-use Rattle.conic.specs.declared.Flatness.TheVariants.{Flat, Curved, Unsure}
 
 -- 0.0, 2.0, 0.5, 0.25 and 1e-3
 abbrev pub zero : Float
@@ -96,10 +94,6 @@ surely_near c = lt tiny (chord_of c) && le (distance_of c) (mul binary32 less (c
 unfoldable pub surely_far : Conic → Bool
 surely_far c = lt tiny (chord_of c) && lt (mul binary32 more (chord_of c)) (distance_of c)
 
--- the same of any weight, as one answer
-unfoldable pub flatness_of : Conic → Flatness
-flatness_of c = cond (near_one_of c.weight) Flat (cond (surely_near c) Flat (cond (surely_far c) Curved Unsure))
-
 -- the weight of both halves of a conic with this weight
 unfoldable pub half_weight_of : Float → Float
 half_weight_of w = sqrt_of binary32 (mul binary32 (add binary32 one w) half)
@@ -123,9 +117,9 @@ split_of c =
       right = record { from = mid; ctrl = right; to = c.to; weight = weight };
     }
 
--- the halves of c that a subdivision has, with the weight u
-abbrev pub halves_of : Conic → Subdivision → Float → Halves
-halves_of c s u = record {
-  left = record { from = c.from; ctrl = s.left_ctrl; to = s.mid; weight = u };
-  right = record { from = s.mid; ctrl = s.right_ctrl; to = c.to; weight = u };
+-- the halves of c that the code has
+abbrev pub halves_of : Conic → code.Halves → Halves
+halves_of c h = record {
+  left = record { from = c.from; ctrl = h.left_ctrl; to = h.mid; weight = h.weight };
+  right = record { from = h.mid; ctrl = h.right_ctrl; to = c.to; weight = h.weight };
 }

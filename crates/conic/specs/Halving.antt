@@ -1,6 +1,6 @@
 -- The quads that the Rust's push_conic leaves of a conic, each with its span: the whole conic is 0 to 64, and a half of a conic has half its span.
 -- Definitions only.
-use Rattle.std.specs.Prelude.{List, [], ◌∷◌, ◌++◌, cond, ℕ, zero, suc, ◌+◌, ◌^◌, length}
+use Rattle.std.specs.Prelude.{List, [], ◌∷◌, ◌++◌, Bool, true, cond, ℕ, zero, suc, ◌+◌, ◌^◌, length}
 use Rattle.geometry.specs.declared.Point.{Point}
 use Rattle.conic.specs.declared.Conic.{Conic}
 use Rattle.conic.specs.Conic.{flat_of, split_of}
@@ -20,6 +20,11 @@ pub record Piece : Type 0 where
 
 abbrev pub piece_of : Conic → ℕ → ℕ → Piece
 piece_of c start size = record { quad = record { ctrl = c.ctrl; to = c.to }; span = record { start = start; size = size } }
+
+-- a conic that may be halved `depth` times is drawn as one quad: it is flat, or may not be halved any more
+unfoldable pub is_one_quad : ℕ → Conic → Bool
+is_one_quad zero c = true
+is_one_quad (suc depth) c = flat_of c
 
 -- what at most `depth` halvings leave of c, whose span is 2 ^ depth long from `start` on
 unfoldable pub halve : ℕ → Conic → ℕ → List Piece

@@ -4,8 +4,8 @@
 #![tactic(auto)]
 
 ghost use Rattle.std.specs.Prelude.{◌≡◌, ℕ, ◌≤◌, length};
-ghost use Rattle.conic.specs.Conic.{conic_at, is_line, lower_of, conic_mid, quad_mid, distance_of, chord_of, near_one_of, near_of, flat_of, surely_near, surely_far, flatness_of, half_weight_of, split_of, halves_of};
-ghost use Rattle.conic.specs.Halving.{halve, count_of};
+ghost use Rattle.conic.specs.Conic.{conic_at, is_line, lower_of, conic_mid, quad_mid, distance_of, chord_of, near_one_of, near_of, flat_of, split_of, halves_of};
+ghost use Rattle.conic.specs.Halving.{is_one_quad, halve, count_of};
 
 use geometry::Point;
 
@@ -17,27 +17,16 @@ pub struct Conic {
     pub weight: f32,
 }
 
-// A conic's middle and the controls of its halves.
+// Both halves of a conic: the one goes from its start to `mid`, the other from `mid` to its target; and whether each is
+// drawn as one quad.
 #[derive(Drop)]
-pub struct Subdivision {
+pub struct Halves {
     pub left_ctrl: Point,
     pub mid: Point,
     pub right_ctrl: Point,
-}
-
-// Whether one quad is near enough to a conic, or that only roots can tell.
-#[derive(Drop)]
-pub enum Flatness {
-    Flat,
-    Curved,
-    Unsure,
-}
-
-// What the squared lengths tell of a conic whose weight is not near 1: where neither holds, only roots can tell.
-#[derive(Drop)]
-pub struct BySquares {
-    pub flat: bool,
-    pub curved: bool,
+    pub weight: f32,
+    pub left_is_quad: bool,
+    pub right_is_quad: bool,
 }
 
 // What a conic is drawn as: one line, or the quads of a curve.
@@ -102,56 +91,14 @@ pub fn is_near_one(w: f32) -> bool
     ensures { result ≡ near_one_of w }
 {
     let over = w - 1.0;
-    if over <= 0.001 {
-        return -0.001 <= over;
-    }
-    false
+    (over <= 0.001) & (-0.001 <= over)
 }
 
-// Whether the quad with the same control and target is near enough to a conic whose weight is not near 1, by the
-// squared lengths. Roots and product are each off by a part in 2^23 at most, so they can decide only where the one is
-// within two parts in a million of a millionth of the other; near 0 that bound fails.
-// What is called at each halving takes a conic's floats one by one: a record would go through memory
-// at each call. There is no branch, so that both halves of a conic are compared side by side.
-#[tactic(auto, unfolding(crate::specs::Conic::surely_near, crate::specs::Conic::surely_far))]
-pub fn closeness(x0: f32, y0: f32, x1: f32, y1: f32, x2: f32, y2: f32, w: f32) -> BySquares
-    ensures { (result.flat ≡ surely_near (conic_at x0 y0 x1 y1 x2 y2 w)) × (result.curved ≡ surely_far (conic_at x0 y0 x1 y1 x2 y2 w)) }
-{
-    let c = Conic {
-        from: Point { x: x0, y: y0 },
-        ctrl: Point { x: x1, y: y1 },
-        to: Point { x: x2, y: y2 },
-        weight: w,
-    };
-    let chord = (c.to - c.from).length_squared();
-    let distance = (conic_mid(c) - quad_mid(c)).length_squared();
-    BySquares {
-        flat: (1e-30 < chord) & (distance <= 9.99998e-7 * chord),
-        curved: (1e-30 < chord) & (1.000002e-6 * chord < distance),
-    }
-}
-
-// The same of any conic, as one answer.
-#[tactic(auto, unfolding(crate::specs::Conic::flatness_of))]
-pub fn flatness_by_squares(x0: f32, y0: f32, x1: f32, y1: f32, x2: f32, y2: f32, w: f32) -> Flatness
-    ensures { result ≡ flatness_of (conic_at x0 y0 x1 y1 x2 y2 w) }
-{
-    if is_near_one(w) {
-        return Flatness::Flat;
-    }
-    let by_squares = closeness(x0, y0, x1, y1, x2, y2, w);
-    if by_squares.flat {
-        return Flatness::Flat;
-    }
-    if by_squares.curved {
-        return Flatness::Curved;
-    }
-    Flatness::Unsure
-}
-
-// Whether the middles of the conic and of the quad are near each other, measured by a chord above 0.
+// Whether the middles of the conic and of the quad are near each other, measured by a chord above 0. No branch, so
+// that both halves of a conic are compared side by side. What is called at each halving takes a conic's floats one by
+// one: a record would go through memory at each call.
 #[tactic(auto, unfolding(crate::specs::Conic::near_of, geometry::specs::Point::length_of))]
-pub fn is_near(x0: f32, y0: f32, x1: f32, y1: f32, x2: f32, y2: f32, w: f32) -> bool
+fn is_near(x0: f32, y0: f32, x1: f32, y1: f32, x2: f32, y2: f32, w: f32) -> bool
     ensures { result ≡ near_of (distance_of (conic_at x0 y0 x1 y1 x2 y2 w)) (chord_of (conic_at x0 y0 x1 y1 x2 y2 w)) }
 {
     let c = Conic {
@@ -161,79 +108,82 @@ pub fn is_near(x0: f32, y0: f32, x1: f32, y1: f32, x2: f32, y2: f32, w: f32) -> 
         weight: w,
     };
     let chord = (c.to - c.from).length();
-    if chord > 0.0 {
-        return (conic_mid(c) - quad_mid(c)).length() <= 0.001 * chord;
-    }
-    false
+    let distance = (conic_mid(c) - quad_mid(c)).length();
+    (chord > 0.0) & (distance <= 0.001 * chord)
 }
 
-// Whether one quad is near enough to a conic: the roots are taken where they are needed.
-fn is_flat(x0: f32, y0: f32, x1: f32, y1: f32, x2: f32, y2: f32, w: f32) -> bool
+// Whether one quad is near enough to a conic.
+#[tactic(auto, unfolding(crate::specs::Conic::flat_of))]
+pub fn is_flat(x0: f32, y0: f32, x1: f32, y1: f32, x2: f32, y2: f32, w: f32) -> bool
     ensures { result ≡ flat_of (conic_at x0 y0 x1 y1 x2 y2 w) }
 {
-    let f = flatness_by_squares(x0, y0, x1, y1, x2, y2, w);
-    match f {
-        Flatness::Flat => true,
-        Flatness::Curved => false,
-        Flatness::Unsure => is_near(x0, y0, x1, y1, x2, y2, w),
-    }
+    is_near_one(w) || is_near(x0, y0, x1, y1, x2, y2, w)
 }
 
-// The weight of both halves of a conic.
-#[tactic(auto, unfolding(crate::specs::Conic::half_weight_of))]
-pub fn half_weight(w: f32) -> f32
-    ensures { result ≡ half_weight_of w }
-{
-    ieee::sqrt((1.0 + w) * 0.5)
-}
-
-// Both halves of a conic, at its middle parameter.
-#[tactic(auto, unfolding(crate::specs::Conic::split_of))]
-pub fn subdivide(x0: f32, y0: f32, x1: f32, y1: f32, x2: f32, y2: f32, w: f32) -> Subdivision
-    ensures { halves_of (conic_at x0 y0 x1 y1 x2 y2 w) result (half_weight_of w) ≡ split_of (conic_at x0 y0 x1 y1 x2 y2 w) }
+// Both halves of a conic, at its middle parameter, each of which may be halved d times. Both are compared before
+// anything is decided, so that the one need not wait for the other.
+pub fn subdivide(x0: f32, y0: f32, x1: f32, y1: f32, x2: f32, y2: f32, w: f32, d: usize) -> Halves
+    ensures halves { halves_of (conic_at x0 y0 x1 y1 x2 y2 w) result ≡ split_of (conic_at x0 y0 x1 y1 x2 y2 w) }
+    ensures left_quad { result.left_is_quad ≡ is_one_quad d (halves_of (conic_at x0 y0 x1 y1 x2 y2 w) result).left }
+    ensures right_quad { result.right_is_quad ≡ is_one_quad d (halves_of (conic_at x0 y0 x1 y1 x2 y2 w) result).right }
 {
     let from = Point { x: x0, y: y0 };
     let ctrl = Point { x: x1, y: y1 };
     let to = Point { x: x2, y: y2 };
     let scale = 1.0 / (1.0 + w);
     let weighted = ctrl * w;
-    let left_ctrl = (from + weighted) * scale;
-    let right_ctrl = (weighted + to) * scale;
+    let a = (from + weighted) * scale;
+    let b = (weighted + to) * scale;
     let sum = from + ctrl * (2.0 * w) + to;
-    let mid = sum * (0.5 * scale);
-    Subdivision {
-        left_ctrl: left_ctrl,
-        mid: mid,
-        right_ctrl: right_ctrl,
+    let m = sum * (0.5 * scale);
+    let u = ieee::sqrt((1.0 + w) * 0.5);
+    let last = (d == 0) | is_near_one(u);
+    Halves {
+        left_ctrl: a,
+        mid: m,
+        right_ctrl: b,
+        weight: u,
+        left_is_quad: last | is_near(x0, y0, a.x, a.y, m.x, m.y, u),
+        right_is_quad: last | is_near(m.x, m.y, b.x, b.y, x2, y2, u),
     }
 }
 
-// How many quads at most `depth` halvings leave of a conic, wherever its span starts.
-fn count_quads(x0: f32, y0: f32, x1: f32, y1: f32, x2: f32, y2: f32, w: f32, depth: usize) -> usize
-    requires { depth ≤ 6 }
+// How many quads at most `depth` halvings leave of a conic, wherever its span starts; `one` tells whether it is one.
+fn count_quads(
+    x0: f32,
+    y0: f32,
+    x1: f32,
+    y1: f32,
+    x2: f32,
+    y2: f32,
+    w: f32,
+    depth: usize,
+    one: bool,
+) -> usize
+    requires { (depth ≤ 6) × (one ≡ is_one_quad depth (conic_at x0 y0 x1 y1 x2 y2 w)) }
     ensures { (start : ℕ) → result ≡ length (halve depth (conic_at x0 y0 x1 y1 x2 y2 w) start) }
 {
-    if depth == 0 {
-        return 1;
-    }
-    if is_flat(x0, y0, x1, y1, x2, y2, w) {
+    if one {
         return 1;
     }
     let d = depth - 1;
-    let h = subdivide(x0, y0, x1, y1, x2, y2, w);
-    let l = h.left_ctrl;
+    let h = subdivide(x0, y0, x1, y1, x2, y2, w, d);
+    let a = h.left_ctrl;
     let m = h.mid;
-    let r = h.right_ctrl;
-    let u = half_weight(w);
-    count_quads(x0, y0, l.x, l.y, m.x, m.y, u, d) + count_quads(m.x, m.y, r.x, r.y, x2, y2, u, d)
+    let b = h.right_ctrl;
+    count_quads(x0, y0, a.x, a.y, m.x, m.y, h.weight, d, h.left_is_quad)
+        + count_quads(m.x, m.y, b.x, b.y, x2, y2, h.weight, d, h.right_is_quad)
 }
 
 // How many quads a conic is drawn as: 1 to 64.
-#[tactic(auto, unfolding(crate::specs::Halving::count_of))]
+#[tactic(auto, unfolding(crate::specs::Halving::count_of, crate::specs::Halving::is_one_quad))]
 pub fn count(c: Conic) -> usize
     ensures { result ≡ count_of c }
 {
+    let flat = is_flat(
+        c.from.x, c.from.y, c.ctrl.x, c.ctrl.y, c.to.x, c.to.y, c.weight,
+    );
     count_quads(
-        c.from.x, c.from.y, c.ctrl.x, c.ctrl.y, c.to.x, c.to.y, c.weight, MAX_DEPTH,
+        c.from.x, c.from.y, c.ctrl.x, c.ctrl.y, c.to.x, c.to.y, c.weight, MAX_DEPTH, flat,
     )
 }

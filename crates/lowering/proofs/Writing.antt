@@ -1,25 +1,26 @@
 -- What the code that writes a conic has where it writes one quad, and where it writes both halves.
 use mathlib.Core.Path.{◌≡◌, refl, sym, ap, ap₂, ◌∙◌}
-use mathlib.Core.List.{List, [], ◌∷◌, ◌++◌}
-use mathlib.Core.Bool.{Bool, true, false, cond, ◌&&◌, ◌||◌, true≢false}
+use mathlib.Core.List.{List, [], ◌∷◌, ◌++◌, append_assoc}
+use mathlib.Core.Bool.{Bool, true, false, ◌&&◌, true≢false}
 use Prim.Native.Nat.{ℕ, zero, suc, ◌+◌, ◌-◌, ◌*◌, ◌%◌, ◌^◌, ◌≤◌, ◌<◌}
 use native.Mathlib.Nat.{one-mul}
 use native.Mathlib.Omega.{arith}
-use lib.ListN.{length, set, replicate, length-append}
+use lib.ListN.{length, take, drop, set, replicate, length-append}
 use lib.Seq.{sets-eq}
 use lib.Pow.{shl_exact}
-use lib.Dec.{lit<, eqb}
+use lib.Dec.{lit<}
 use lib.Ieee.{Float}
 use Rattle.geometry.specs.declared.Point.{Point}
 use Rattle.conic.specs.declared.Conic.{Conic}
-use Rattle.conic.specs.Conic.{near_one_of, Halves, flat_of, surely_near, split_of}
-use Rattle.conic.proofs.Flat.{flat_one, near_flat}
-use Rattle.conic.specs.Halving.{Piece, piece_of, halve, pieces_of, count_of, word_of}
-use Rattle.conic.proofs.Halving.{halve-none, halve_flat, halve-split, word_append}
+use Rattle.conic.specs.Conic.{Halves, split_of}
+use Rattle.conic.specs.Halving.{Piece, piece_of, is_one_quad, halve, pieces_of, count_of, word_of}
+use Rattle.conic.proofs.Halving.{halve_two, split_some, half-span, word_append}
 use Rattle.conic.proofs.Whole.{halve-ends}
 use Rattle.stream.specs.declared.Builder.{Builder}
-use Rattle.stream.specs.declared.Element.{Element}
 use Rattle.stream.specs.declared.Element.TheVariants.{Quad}
+use lib.Seq.{paste}
+use Rattle.std.proofs.lemmas.List.{length-replicate}
+use Rattle.std.proofs.lemmas.List.Edits.{paste_all}
 use Rattle.stream.specs.Stream.{put, all_floats, State, state, push, push_all, advance_of}
 use Rattle.stream.proofs.Put.{put_one, put-after, length-put}
 use Rattle.stream.proofs.Pushed.{push_all-verbs, push-all_points, push_all-start, push_all-pen}
@@ -42,14 +43,10 @@ one_more : (n x : ℕ) → replicate n x ++ x ∷ [] ≡ replicate (suc n) x
 one_more zero x = refl
 one_more (suc n) x = ap (λ (r : List ℕ). x ∷ r) (one_more n x)
 
-length_run : (n x : ℕ) → length (replicate n x) ≡ n
-length_run zero x = refl
-length_run (suc n) x = ap suc (length_run n x)
-
 -- a run of one value, and one more behind it
 pub run_more : (l : List ℕ) (v i x : ℕ) → v + i < length l → set (put l v (replicate i x)) (v + i) x ≡ put l v (replicate (i + 1) x)
 run_more l v i x h =
-    let n = length_run i x in
+    let n = length-replicate i x in
     let k : length (put l v (replicate i x)) ≡ length l = length-put l v (replicate i x) (omega arith) in
     let e : suc i ≡ i + 1 = omega arith in
     put_one (put l v (replicate i x)) (v + i) x (omega arith)
@@ -72,12 +69,14 @@ run_4 l v x h = ap (λ (m : List ℕ). set m (v + 3) x) (run_3 l v x (omega arit
 -- four and more behind them
 pub run_on : (l m : List ℕ) (v n x : ℕ) → m ≡ put l v (replicate 4 x) → v + n ≤ length l → 4 ≤ n → put m (v + 4) (replicate (n - 4) x) ≡ put l v (replicate n x)
 run_on l m v n x e h k =
-    let z = length_run (n - 4) x in
+    let z = length-replicate (n - 4) x in
     let s : suc (suc (suc (suc (n - 4)))) ≡ n = omega arith in
     put-after l m v (v + 4) (replicate 4 x) (replicate (n - 4) x) (omega arith) refl e ∙ ap (λ (j : ℕ). put l v (replicate j x)) s
 
-pub length-filled : (l : List ℕ) (v n x : ℕ) → v + n ≤ length l → length (put l v (replicate n x)) ≡ length l
-length-filled l v n x h = let e = length_run n x in length-put l v (replicate n x) (omega arith)
+-- a run, stored by the library
+pub run_put : (l : List ℕ) (v n x : ℕ) → paste l v (replicate n x) n ≡ put l v (replicate n x)
+unfolding put
+run_put l v n x = let e = length-replicate n x in paste_all l v (replicate n x) n (sym e) ∙ ap (λ (k : ℕ). take v l ++ (replicate n x ++ drop (v + k) l)) (sym e) ∙ sym (append_assoc (take v l) (replicate n x) _)
 
 -- ---- one quad
 
@@ -118,13 +117,34 @@ pub record BothHalves (ps l r : List Piece) : Type 0 where
   pub quads : quads_of ps ≡ quads_of l ++ quads_of r
   pub word : word_of ps ≡ word_of l + word_of r
 
-pub both_halves : (n : ℕ) (c : Conic) (h : Halves) (start : ℕ) → (n ≡ 0 → ⊥) → flat_of c ≡ false → h ≡ split_of c
-    → BothHalves (halve n c start) (halve (n - 1) h.left start) (halve (n - 1) h.right (start + 2 ^ (n - 1)))
-both_halves n c h start z f e =
-    let q = halve-split n c h start z f e in
-    let l = halve (n - 1) h.left start in
-    let r = halve (n - 1) h.right (start + 2 ^ (n - 1)) in
-    record { many = ap length q ∙ length-append l r; quads = ap quads_of q ∙ quads_append l r; word = ap word_of q ∙ word_append l r }
+-- a conic that is split: the second half starts at `next`, half the span behind the start
+pub record Split (n start next : ℕ) (ps l r : List Piece) : Type 0 where
+  pub some : 0 < n
+  pub both : BothHalves ps l r
+  pub half : next ≡ start + 2 ^ (n - 1)
+  pub whole : next + 2 ^ (n - 1) ≡ start + 2 ^ n
+
+-- with the place that the code finds for the second half
+pub split : (n : ℕ) (c : Conic) (h : Halves) (start : ℕ) → n ≤ 6 → is_one_quad n c ≡ false → h ≡ split_of c
+    → let next = start + (1 * 2 ^ (n - 1)) % 2 ^ 64 in Split n start next (halve n c start) (halve (n - 1) h.left start) (halve (n - 1) h.right next)
+split n c h start six f e =
+    let some = split_some n c f in
+    let d = n - 1 in
+    let half : start + (1 * 2 ^ d) % 2 ^ 64 ≡ start + 2 ^ d = ap (λ (x : ℕ). start + x) (bit d (omega arith)) in
+    let span = half-span n (λ z. omega (arith, some, z)) in
+    let l = halve d h.left start in
+    let q = halve_two n c h start f e ∙ ap (λ (x : ℕ). l ++ halve d h.right x) (sym half) in
+    let r = halve d h.right (start + (1 * 2 ^ d) % 2 ^ 64) in
+    record {
+      some = some;
+      both = record { many = ap length q ∙ length-append l r; quads = ap quads_of q ∙ quads_append l r; word = ap word_of q ∙ word_append l r };
+      half = half;
+      whole = omega (arith, half, span);
+    }
+
+pub each_true : (p q : Bool) → (p && q) ≡ true → (p ≡ true) × (q ≡ true)
+each_true true q h = (refl, h)
+each_true false q h = absurd (true≢false (sym h))
 
 quads-floats : (ps : List Piece) → length (all_floats (quads_of ps)) ≡ 4 * length ps
 quads-floats ps = length_all (quads_of ps) ∙ omega (arith, quads-sizes ps)
@@ -145,53 +165,6 @@ both-wrote ps l r {fs} {us} {gs} {at} {mid} h b x y =
       end = omega (arith, x.end, y.end);
       bits = omega (arith, x.bits, y.bits);
     }
-
--- ---- a half that is flat by its weight may as well not be halved
-
-pub record SameQuads (ps qs : List Piece) : Type 0 where
-  pub many : length ps ≡ length qs
-  pub quads : quads_of ps ≡ quads_of qs
-  pub word : word_of ps ≡ word_of qs
-
-pub same_quads : (b : Bool) (e d : ℕ) (c : Conic) (start : ℕ) → near_one_of c.weight ≡ b → e ≡ cond b 0 d → SameQuads (halve e c start) (halve d c start)
-same_quads true e d c start w z =
-    let x = one-quad (halve e c start) c start _ (halve-none e c start z) in
-    let y = one-quad (halve d c start) c start _ (halve_flat d c start (flat_one c w)) in
-    record { many = x.many ∙ sym y.many; quads = x.quads ∙ sym y.quads; word = x.word ∙ sym y.word }
-same_quads false e d c start w z =
-    record { many = ap (λ (k : ℕ). length (halve k c start)) z; quads = ap (λ (k : ℕ). quads_of (halve k c start)) z; word = ap (λ (k : ℕ). word_of (halve k c start)) z }
-
-pub same_wrote : (ps qs : List Piece) {fs gs : List Float} {at next word after : ℕ} → SameQuads ps qs → Wrote ps fs gs at next word after → Wrote qs fs gs at next word after
-same_wrote ps qs {fs} {gs} {at} s w =
-    let m = s.many in
-    let b = s.word in
-    record { points = w.points ∙ ap (λ (ks : List Element). put fs (2 * at) (all_floats ks)) s.quads; end = omega (arith, w.end); bits = omega (arith, w.bits) }
-
-pub not-deeper : (b : Bool) (e d : ℕ) → e ≡ cond b 0 d → e ≤ d
-not-deeper true e d z = omega arith
-not-deeper false e d z = omega arith
-
-pub deep_not_near : (b : Bool) (e d : ℕ) → e ≡ cond b 0 d → 0 < e → b ≡ false
-deep_not_near true e d z h = absurd (omega arith)
-deep_not_near false e d z h = refl
-
--- halves that are not halved any more, or of which both are flat
-pub either_flat : (z p q : Bool) → (z || (p && q)) ≡ true → ((z || p) ≡ true) × ((z || q) ≡ true)
-either_flat true p q h = (refl, refl)
-either_flat false true true h = (h, h)
-either_flat false true false h = absurd (true≢false (sym h))
-either_flat false false q h = absurd (true≢false (sym h))
-
-pub not_none : (e : ℕ) (q : Bool) → (eqb e 0 || q) ≡ false → 0 < e
-not_none zero q h = absurd (true≢false h)
-not_none (suc e) q h = omega arith
-
-pub single : (near z f : Bool) (e d : ℕ) (c : Conic) (start : ℕ) → near_one_of c.weight ≡ near → e ≡ cond near 0 d → (z ≡ true → e ≡ 0) → f ≡ surely_near c → (z || f) ≡ true
-    → OneQuad (halve d c start) c start
-single true z f e d c start w k n s h = one-quad _ c start _ (halve_flat d c start (flat_one c w))
-single false true f e d c start w k n s h = one-quad _ c start _ (halve-none d c start (sym k ∙ n refl))
-single false false true e d c start w k n s h = one-quad _ c start _ (halve_flat d c start (near_flat c w (sym s)))
-single false false false e d c start w k n s h = absurd (true≢false (sym h))
 
 -- ---- a whole conic
 

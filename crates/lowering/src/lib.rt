@@ -3,15 +3,14 @@
 
 #![tactic(auto)]
 
-ghost use Rattle.std.specs.Prelude.{◌≡◌, false, cond, ◌∷◌, [], ◌+◌, ◌*◌, ◌^◌, ◌<◌, ◌≤◌, length, drop, get_or, set, replicate};
-ghost use Rattle.std.specs.Float.{nan};
-ghost use Rattle.conic.specs.Conic.{conic_at, distance_of, chord_of, near_one_of, near_of, flat_of, surely_near, surely_far, flatness_of, half_weight_of};
-ghost use Rattle.conic.specs.Halving.{halve, word_of, pieces_of, count_of};
+ghost use Rattle.std.specs.Prelude.{◌≡◌, false, ◌∷◌, [], ◌+◌, ◌*◌, ◌^◌, ◌<◌, ◌≤◌, length, replicate};
+ghost use Rattle.conic.specs.Conic.{conic_at, flat_of};
+ghost use Rattle.conic.specs.Halving.{is_one_quad, halve, word_of, pieces_of, count_of};
 ghost use Rattle.stream.specs.Stream.{put, all_floats, state, push, push_all, Fits};
 ghost use Rattle.lowering.specs.Entries.{elements_of, quads_of, lowered_of, joint_word, plainly_written, builder_at};
-ghost use Rattle.lowering.specs.Quads.{HasRoom, Known, Remembers, Lowers};
+ghost use Rattle.lowering.specs.Quads.{HasRoom, Lowers};
 
-use conic::{Conic, Flatness, Lowered, MAX_DEPTH};
+use conic::{Conic, Lowered, MAX_DEPTH};
 use geometry::Point;
 use stream::{Builder, Element};
 
@@ -85,38 +84,11 @@ fn put_quad(
     *word = *word + (1 << start);
 }
 
-// The weight of both halves of a conic, which may be halved d times: all parts that may be halved so often have
-// the same weight, so its root is taken once. 0 stands for a weight that is not known yet.
-fn weight_of_halves(memo: &mut [f32; 6], d: usize, w: f32) -> f32
-    requires { (d < 6) × Known (get_or memo.old d nan) (half_weight_of w) }
-    ensures { (result ≡ half_weight_of w) × (memo.new ≡ set memo.old d (half_weight_of w)) }
-{
-    let known = memo[d];
-    if known == 0.0 {
-        let u = conic::half_weight(w);
-        memo[d] = u;
-        return u;
-    }
-    known
-}
-
-// How often halves that may be halved d times are: not at all where their weight is near 1, since they are flat then.
-fn depth_of_halves(d: usize, u: f32) -> usize
-    ensures { result ≡ cond (near_one_of u) 0 d }
-{
-    if conic::is_near_one(u) {
-        return 0;
-    }
-    d
-}
-
-// The quads of a conic whose weight is not near 1, their points from point `at` on, and the bits where they start,
-// by what the squared lengths tell of it. Each split calls it for both halves, with the depth still allowed falling
-// from 6.
-#[cycle(push_conic_push_halves_push_unsure)]
+// The quads of a conic, their points from point `at` on, and the bits where they start; `one` tells whether it is one.
+// Halving calls itself, twice for each split, with the depth still allowed falling from 6. Most often both halves are
+// one quad each: then neither call is made.
 fn push_conic(
     points: &mut [f32],
-    memo: &mut [f32; 6],
     at: &mut usize,
     word: &mut u64,
     x0: f32,
@@ -128,123 +100,57 @@ fn push_conic(
     w: f32,
     depth: usize,
     start: usize,
-    flat: bool,
-    curved: bool,
+    one: bool,
 )
-    requires { (0 < depth) × (near_one_of w ≡ false) × (flat ≡ surely_near (conic_at x0 y0 x1 y1 x2 y2 w)) × (curved ≡ surely_far (conic_at x0 y0 x1 y1 x2 y2 w)) × (depth ≤ 6) × (start + 2 ^ depth ≤ 64) × HasRoom (halve depth (conic_at x0 y0 x1 y1 x2 y2 w) start) points.old at.old word.old × Remembers depth w memo.old }
+    requires { (one ≡ is_one_quad depth (conic_at x0 y0 x1 y1 x2 y2 w)) × (depth ≤ 6) × (start + 2 ^ depth ≤ 64) × HasRoom (halve depth (conic_at x0 y0 x1 y1 x2 y2 w) start) points.old at.old word.old }
     ensures points_after { points.new ≡ put points.old (2 * at.old) (all_floats (quads_of (halve depth (conic_at x0 y0 x1 y1 x2 y2 w) start))) }
     ensures at_after { (at.new ≡ at.old + 2 * length (halve depth (conic_at x0 y0 x1 y1 x2 y2 w) start)) × (word.new ≡ word.old + word_of (halve depth (conic_at x0 y0 x1 y1 x2 y2 w) start)) }
-    ensures remembers { Remembers depth w memo.new × (drop depth memo.new ≡ drop depth memo.old) }
 {
-    if flat {
+    if one {
         put_quad(points, at, word, x1, y1, x2, y2, start);
         return;
     }
-    if curved {
-        push_halves(
-            points, memo, at, word, x0, y0, x1, y1, x2, y2, w, depth, start,
-        );
-        return;
-    }
-    push_unsure(
-        points, memo, at, word, x0, y0, x1, y1, x2, y2, w, depth, start,
-    );
-}
-
-// The same of a conic of which only roots can tell whether it is flat.
-#[cycle(push_conic_push_halves_push_unsure)]
-fn push_unsure(
-    points: &mut [f32],
-    memo: &mut [f32; 6],
-    at: &mut usize,
-    word: &mut u64,
-    x0: f32,
-    y0: f32,
-    x1: f32,
-    y1: f32,
-    x2: f32,
-    y2: f32,
-    w: f32,
-    depth: usize,
-    start: usize,
-)
-    requires { (0 < depth) × (flat_of (conic_at x0 y0 x1 y1 x2 y2 w) ≡ near_of (distance_of (conic_at x0 y0 x1 y1 x2 y2 w)) (chord_of (conic_at x0 y0 x1 y1 x2 y2 w))) × (depth ≤ 6) × (start + 2 ^ depth ≤ 64) × HasRoom (halve depth (conic_at x0 y0 x1 y1 x2 y2 w) start) points.old at.old word.old × Remembers depth w memo.old }
-    ensures points_after { points.new ≡ put points.old (2 * at.old) (all_floats (quads_of (halve depth (conic_at x0 y0 x1 y1 x2 y2 w) start))) }
-    ensures at_after { (at.new ≡ at.old + 2 * length (halve depth (conic_at x0 y0 x1 y1 x2 y2 w) start)) × (word.new ≡ word.old + word_of (halve depth (conic_at x0 y0 x1 y1 x2 y2 w) start)) }
-    ensures remembers { Remembers depth w memo.new × (drop depth memo.new ≡ drop depth memo.old) }
-{
-    if conic::is_near(x0, y0, x1, y1, x2, y2, w) {
-        put_quad(points, at, word, x1, y1, x2, y2, start);
-        return;
-    }
-    push_halves(
-        points, memo, at, word, x0, y0, x1, y1, x2, y2, w, depth, start,
-    );
-}
-
-// The same of a conic that is not flat. Both halves are compared before anything is decided, so that the one need not
-// wait for the other; most often both are flat.
-#[cycle(push_conic_push_halves_push_unsure)]
-fn push_halves(
-    points: &mut [f32],
-    memo: &mut [f32; 6],
-    at: &mut usize,
-    word: &mut u64,
-    x0: f32,
-    y0: f32,
-    x1: f32,
-    y1: f32,
-    x2: f32,
-    y2: f32,
-    w: f32,
-    depth: usize,
-    start: usize,
-)
-    requires { (0 < depth) × (flat_of (conic_at x0 y0 x1 y1 x2 y2 w) ≡ false) × (depth ≤ 6) × (start + 2 ^ depth ≤ 64) × HasRoom (halve depth (conic_at x0 y0 x1 y1 x2 y2 w) start) points.old at.old word.old × Remembers depth w memo.old }
-    ensures points_after { points.new ≡ put points.old (2 * at.old) (all_floats (quads_of (halve depth (conic_at x0 y0 x1 y1 x2 y2 w) start))) }
-    ensures at_after { (at.new ≡ at.old + 2 * length (halve depth (conic_at x0 y0 x1 y1 x2 y2 w) start)) × (word.new ≡ word.old + word_of (halve depth (conic_at x0 y0 x1 y1 x2 y2 w) start)) }
-    ensures remembers { Remembers depth w memo.new × (drop depth memo.new ≡ drop depth memo.old) }
-{
     let d = depth - 1;
-    let h = conic::subdivide(x0, y0, x1, y1, x2, y2, w);
+    let h = conic::subdivide(x0, y0, x1, y1, x2, y2, w, d);
     let a = h.left_ctrl;
     let m = h.mid;
     let b = h.right_ctrl;
-    let u = weight_of_halves(memo, d, w);
-    let e = depth_of_halves(d, u);
+    let u = h.weight;
     let next = start + (1 << d);
-    let l = conic::closeness(x0, y0, a.x, a.y, m.x, m.y, u);
-    let r = conic::closeness(m.x, m.y, b.x, b.y, x2, y2, u);
-    if (e == 0) | (l.flat & r.flat) {
+    if h.left_is_quad & h.right_is_quad {
         put_quad(points, at, word, a.x, a.y, m.x, m.y, start);
         put_quad(points, at, word, b.x, b.y, x2, y2, next);
         return;
     }
     push_conic(
-        points, memo, at, word, x0, y0, a.x, a.y, m.x, m.y, u, e, start, l.flat, l.curved,
+        points,
+        at,
+        word,
+        x0,
+        y0,
+        a.x,
+        a.y,
+        m.x,
+        m.y,
+        u,
+        d,
+        start,
+        h.left_is_quad,
     );
     push_conic(
-        points, memo, at, word, m.x, m.y, b.x, b.y, x2, y2, u, e, next, r.flat, r.curved,
-    );
-}
-
-// The same of a whole conic that is not flat, as far as the squared lengths tell.
-fn push_first(unsure: bool, points: &mut [f32], at: &mut usize, word: &mut u64, c: Conic)
-    requires { (flatness_of c ≡ cond unsure Flatness.Unsure Flatness.Curved) × HasRoom (pieces_of c) points.old at.old word.old }
-    ensures points_after { points.new ≡ put points.old (2 * at.old) (all_floats (quads_of (pieces_of c))) }
-    ensures at_after { (at.new ≡ at.old + 2 * length (pieces_of c)) × (word.new ≡ word.old + word_of (pieces_of c)) }
-{
-    let mut memo = [0.0; 6];
-    if unsure {
-        push_unsure(
-            points, &mut memo, at, word, c.from.x, c.from.y, c.ctrl.x, c.ctrl.y, c.to.x, c.to.y,
-            c.weight, MAX_DEPTH, 0,
-        );
-        return;
-    }
-    push_halves(
-        points, &mut memo, at, word, c.from.x, c.from.y, c.ctrl.x, c.ctrl.y, c.to.x, c.to.y,
-        c.weight, MAX_DEPTH, 0,
+        points,
+        at,
+        word,
+        m.x,
+        m.y,
+        b.x,
+        b.y,
+        x2,
+        y2,
+        u,
+        d,
+        next,
+        h.right_is_quad,
     );
 }
 
@@ -287,9 +193,7 @@ fn fill_many(verbs: &mut [u8], v: usize, n: usize)
     requires { v + n ≤ length verbs.old }
     ensures { verbs.new ≡ put verbs.old v (replicate n 2) }
 {
-    for i in 0..n {
-        verbs[v + i] = 2;
-    }
+    verbs[v..v + n].fill(2);
 }
 
 // The same. The compiler makes a call of the loop, which costs more than the few bytes that most conics have.
@@ -310,20 +214,16 @@ fn fill_quads(verbs: &mut [u8], v: usize, n: usize)
 }
 
 // The quads of a conic that is more than one, as verbs from v on and points from p on.
-fn push_curve(
-    unsure: bool,
-    v: usize,
-    p: usize,
-    verbs: &mut [u8],
-    points: &mut [f32],
-    c: Conic,
-) -> Marks
-    requires { (flatness_of c ≡ cond unsure Flatness.Unsure Flatness.Curved) × (v + count_of c ≤ length verbs.old) × (2 * (p + 2 * count_of c) ≤ length points.old) }
+fn push_curve(v: usize, p: usize, verbs: &mut [u8], points: &mut [f32], c: Conic) -> Marks
+    requires { (flat_of c ≡ false) × (v + count_of c ≤ length verbs.old) × (2 * (p + 2 * count_of c) ≤ length points.old) }
     ensures { Lowers result v p c verbs.old points.old verbs.new points.new }
 {
     let mut at = p;
     let mut word = 0;
-    push_first(unsure, points, &mut at, &mut word, c);
+    push_conic(
+        points, &mut at, &mut word, c.from.x, c.from.y, c.ctrl.x, c.ctrl.y, c.to.x, c.to.y,
+        c.weight, MAX_DEPTH, 0, false,
+    );
     let count = (at - p) / 2;
     fill_quads(verbs, v, count);
     Marks { count, word }
@@ -335,14 +235,12 @@ fn push_quads(v: usize, p: usize, verbs: &mut [u8], points: &mut [f32], c: Conic
     requires { (v + count_of c ≤ length verbs.old) × (2 * (p + 2 * count_of c) ≤ length points.old) }
     ensures { Lowers result v p c verbs.old points.old verbs.new points.new }
 {
-    let f = conic::flatness_by_squares(
+    if conic::is_flat(
         c.from.x, c.from.y, c.ctrl.x, c.ctrl.y, c.to.x, c.to.y, c.weight,
-    );
-    match f {
-        Flatness::Flat => push_piece(v, p, verbs, points, c.ctrl, c.to),
-        Flatness::Curved => push_curve(false, v, p, verbs, points, c),
-        Flatness::Unsure => push_curve(true, v, p, verbs, points, c),
+    ) {
+        return push_piece(v, p, verbs, points, c.ctrl, c.to);
     }
+    push_curve(v, p, verbs, points, c)
 }
 
 // What a conic is lowered to, behind the held elements, for which there is room.

@@ -1,9 +1,7 @@
 use mathlib.Core.Path.{sym, ap, ◌∙◌}
 use native.Mathlib.Omega.{arith}
 use Rattle.geometry.specs.declared.Point.{Point}
-use Rattle.conic.specs.declared.Flatness.TheVariants.{Flat}
 use Rattle.conic.specs.Halving.{pieces_of}
-use Rattle.conic.proofs.Flat.{flatness_tells}
 use Rattle.conic.proofs.Halving.{halve_flat}
 use Rattle.stream.specs.Stream.{State, state, push_all}
 use Rattle.stream.proofs.Pushed.{push_all-one}
@@ -14,22 +12,17 @@ use Rattle.lowering.proofs.push_quads.Goals as goal
 pub push_piece-requires : goal.push_piece-requires
 push_piece-requires c =
     let a = c.args in
-    let flat = flatness_tells a.c Flat (sym c.in-Flat.ensures) in
-    let h = one-quad (pieces_of a.c) a.c 0 _ (halve_flat 6 a.c 0 flat) in
+    let h = one-quad (pieces_of a.c) a.c 0 _ (halve_flat 6 a.c 0 (sym c.is_flat.ensures ∙ c.if-is_flat.true)) in
     let s = c.requires in
     (omega (arith, s.0, count_is a.c, h.many), omega (arith, s.1, count_is a.c, h.many))
 
 pub push_curve-requires : goal.push_curve-requires
-push_curve-requires c = (sym c.in-Curved.ensures, c.requires.0, c.requires.1)
+push_curve-requires c = (sym c.is_flat.ensures ∙ c.if-is_flat.false, c.requires.0, c.requires.1)
 
-pub push_curve-requires-in-Unsure : goal.push_curve-requires-in-Unsure
-push_curve-requires-in-Unsure c = (sym c.in-Unsure.ensures, c.requires.0, c.requires.1)
-
-pub returns-in-Flat : goal.returns-in-Flat
-returns-in-Flat c =
+pub returns-then-is_flat : goal.returns-then-is_flat
+returns-then-is_flat c =
     let a = c.args in
-    let flat = flatness_tells a.c Flat (sym c.in-Flat.ensures) in
-    let h = one-quad (pieces_of a.c) a.c 0 _ (halve_flat 6 a.c 0 flat) in
+    let h = one-quad (pieces_of a.c) a.c 0 _ (halve_flat 6 a.c 0 (sym c.is_flat.ensures ∙ c.if-is_flat.true)) in
     let e = c.push_piece.ensures in
     let s : Point → Point → State = λ from pen. state (builder_at a.v a.p from pen) a.verbs.now a.points.now in
     (λ from pen. e.points_after from pen ∙ sym (ap (push_all (s from pen)) h.quads ∙ push_all-one (s from pen) _), e.count_value.0 ∙ sym h.many, e.count_value.1 ∙ sym h.word)
