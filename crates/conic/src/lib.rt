@@ -171,8 +171,11 @@ fn count_quads(
     let a = h.left_ctrl;
     let m = h.mid;
     let b = h.right_ctrl;
-    count_quads(x0, y0, a.x, a.y, m.x, m.y, h.weight, d, h.left_is_quad)
-        + count_quads(m.x, m.y, b.x, b.y, x2, y2, h.weight, d, h.right_is_quad)
+    let u = h.weight;
+    let l = h.left_is_quad;
+    let r = h.right_is_quad;
+    count_quads(x0, y0, a.x, a.y, m.x, m.y, u, d, l)
+        + count_quads(m.x, m.y, b.x, b.y, x2, y2, u, d, r)
 }
 
 // How many quads a conic is drawn as: 1 to 64.

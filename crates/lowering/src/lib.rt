@@ -116,42 +116,16 @@ fn push_conic(
     let m = h.mid;
     let b = h.right_ctrl;
     let u = h.weight;
+    let l = h.left_is_quad;
+    let r = h.right_is_quad;
     let next = start + (1 << d);
-    if h.left_is_quad & h.right_is_quad {
+    if l & r {
         put_quad(points, at, word, a.x, a.y, m.x, m.y, start);
         put_quad(points, at, word, b.x, b.y, x2, y2, next);
         return;
     }
-    push_conic(
-        points,
-        at,
-        word,
-        x0,
-        y0,
-        a.x,
-        a.y,
-        m.x,
-        m.y,
-        u,
-        d,
-        start,
-        h.left_is_quad,
-    );
-    push_conic(
-        points,
-        at,
-        word,
-        m.x,
-        m.y,
-        b.x,
-        b.y,
-        x2,
-        y2,
-        u,
-        d,
-        next,
-        h.right_is_quad,
-    );
+    push_conic(points, at, word, x0, y0, a.x, a.y, m.x, m.y, u, d, start, l);
+    push_conic(points, at, word, m.x, m.y, b.x, b.y, x2, y2, u, d, next, r);
 }
 
 // Four quads as verbs from v on.
