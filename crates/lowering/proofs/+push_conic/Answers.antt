@@ -29,20 +29,20 @@ returns-then-one t c =
 pub overflow_sub-d : goal.overflow_sub-d
 overflow_sub-d t c = let a = c.args in omega (arith, split_some a.depth (conic_at a.x0 a.y0 a.x1 a.y1 a.x2 a.y2 a.w) (sym c.requires.0 ∙ c.if-one.false))
 
-pub put_quad-requires-then-l : goal.put_quad-requires-then-l
-put_quad-requires-then-l t c =
+pub put_quad-requires-then-l-r : goal.put_quad-requires-then-l-r
+put_quad-requires-then-l-r t c =
     let a = c.args in
     let s = c.requires in
     let k = conic_at a.x0 a.y0 a.x1 a.y1 a.x2 a.y2 a.w in
     let m = c.subdivide-h in
     let h = halves_of k m.result in
     let p = split a.depth k h a.start s.1 (sym s.0 ∙ c.if-one.false) m.ensures.halves in
-    let q = each_true _ _ c.if-l.true in
+    let q = each_true _ _ c.if-l-r.true in
     let l = one-quad _ h.left a.start _ (halve_one (a.depth - 1) h.left a.start (sym m.ensures.left_quad ∙ q.0)) in
     (omega (arith, s.2, pow_pos a.depth), omega (arith, s.3.0, p.both.many, l.many), omega (arith, s.3.1, p.both.word, l.word))
 
-pub put_quad-requires-then-l-2 : goal.put_quad-requires-then-l-2
-put_quad-requires-then-l-2 t c =
+pub put_quad-requires-then-l-r-2 : goal.put_quad-requires-then-l-r-2
+put_quad-requires-then-l-r-2 t c =
     let a = c.args in
     let s = c.requires in
     let k = conic_at a.x0 a.y0 a.x1 a.y1 a.x2 a.y2 a.w in
@@ -51,17 +51,17 @@ put_quad-requires-then-l-2 t c =
     let d = a.depth - 1 in
     let next = a.start + (1 * 2 ^ d) % 2 ^ 64 in
     let p = split a.depth k h a.start s.1 (sym s.0 ∙ c.if-one.false) m.ensures.halves in
-    let q = each_true _ _ c.if-l.true in
+    let q = each_true _ _ c.if-l-r.true in
     let l = one-quad _ h.left a.start _ (halve_one d h.left a.start (sym m.ensures.left_quad ∙ q.0)) in
     let r = one-quad _ h.right next _ (halve_one d h.right next (sym m.ensures.right_quad ∙ q.1)) in
-    let first = c.put_quad-then-l in (
+    let first = c.put_quad-then-l-r in (
       omega (arith, s.2, p.whole, pow_pos d),
       omega (arith, s.3.0, p.both.many, l.many, r.many, first.ensures.at_after.0, first.auto.points),
       omega (arith, s.3.1, p.both.word, l.word, r.word, first.ensures.at_after.1),
     )
 
-pub returns-then-l : goal.returns-then-l
-returns-then-l t c =
+pub returns-then-l-r : goal.returns-then-l-r
+returns-then-l-r t c =
     let a = c.args in
     let s = c.requires in
     let k = conic_at a.x0 a.y0 a.x1 a.y1 a.x2 a.y2 a.w in
@@ -70,11 +70,11 @@ returns-then-l t c =
     let d = a.depth - 1 in
     let next = a.start + (1 * 2 ^ d) % 2 ^ 64 in
     let p = split a.depth k h a.start s.1 (sym s.0 ∙ c.if-one.false) m.ensures.halves in
-    let q = each_true _ _ c.if-l.true in
+    let q = each_true _ _ c.if-l-r.true in
     let l = one-quad _ h.left a.start _ (halve_one d h.left a.start (sym m.ensures.left_quad ∙ q.0)) in
     let r = one-quad _ h.right next _ (halve_one d h.right next (sym m.ensures.right_quad ∙ q.1)) in
-    let x = c.put_quad-then-l.ensures in
-    let y = c.put_quad-then-l-2.ensures in
+    let x = c.put_quad-then-l-r.ensures in
+    let y = c.put_quad-then-l-r-2.ensures in
     let w = both-wrote (halve a.depth k a.start) _ _ (omega (arith, s.3.0)) p.both (one-wrote _ h.left a.start l x.points_after x.at_after.0 x.at_after.1) (one-wrote _ h.right next r y.points_after y.at_after.0 y.at_after.1) in
     record { points_after = w.points; at_after = (w.end, w.bits) }
 
