@@ -243,7 +243,6 @@ struct Solve {
 // N solves in step. Within a solve each power waits for the one before; a power of another solve need not, so that all are
 // worked out at once.
 fn solves<const N: usize>(u: [Unsolved; N]) -> [Solve; N]
-    requires { N < 2 ^ 32 }
     ensures { result ≡ map solve_of u.entry }
 {
     let s = lanes::each(u, |u| fit(u.a, u.radius));
@@ -260,7 +259,6 @@ fn solves<const N: usize>(u: [Unsolved; N]) -> [Solve; N]
 
 // N octants that are round: none has a radius up to CLOSE_ENOUGH.
 pub fn round_octants<const N: usize>(u: [Unsolved; N]) -> [Octant; N]
-    requires { N < 2 ^ 32 }
     ensures { result ≡ map round_of u.entry }
 {
     lanes::pairwise(u, solves(u), |u, s| {
@@ -287,7 +285,6 @@ pub fn compute_octant(center: Point, a: f32, radius: f32) -> Octant
 
 // N octants, in step where all are round.
 pub fn compute_octants<const N: usize>(u: [Unsolved; N]) -> [Octant; N]
-    requires { N < 2 ^ 32 }
     ensures { result ≡ map (λ (o : Unsolved). compute_octant_of o.center o.a o.radius) u.entry }
 {
     if lanes::all(u, |u| !(u.radius <= CLOSE_ENOUGH)) {
