@@ -68,6 +68,7 @@ pub struct NAndXj {
     pub xj_over_a: f32,
 }
 
+#[tactic(auto, unfolding(crate::specs::Degree::corner_at))]
 fn corner(row: usize, column: usize) -> f32
     requires { (row < 11) × (column < 2) }
     ensures { result ≡ corner_at row column }
@@ -102,16 +103,13 @@ pub fn left_row(steps: f32, last: u8) -> usize
     ensures { result ≡ left_row_of steps last }
 {
     let end = usize::from(last);
-    for left in 0..end {
-        if steps >= (left + 1) as f32 {
-            continue;
-        }
-        return left;
-    }
-    end
+    (0..end)
+        .find(|&left| !(steps >= (left + 1) as f32))
+        .unwrap_or(end)
 }
 
 // Where a ratio stands among the rows.
+#[tactic(auto, unfolding(crate::specs::Degree::table_steps_of))]
 fn table_steps(ratio: f32) -> f32
     ensures { result ≡ table_steps_of ratio }
 {
@@ -122,6 +120,7 @@ fn table_steps(ratio: f32) -> f32
 }
 
 // The degree n and xJ/a for a ratio of side to radius.
+#[tactic(auto, unfolding(crate::specs::Degree::n_and_xj_of, crate::specs::Degree::corner_at))]
 pub fn n_and_xj(ratio: f32) -> NAndXj
     ensures { result ≡ n_and_xj_of ratio }
 {
@@ -146,6 +145,7 @@ pub fn n_and_xj(ratio: f32) -> NAndXj
 }
 
 // The center of the circle of radius r through both a and b.
+#[tactic(auto, using(crate::proofs::Turned::turned), unfolding(crate::specs::Octant::circle_center_through_of, geometry::specs::Point::normalize_of))]
 pub fn circle_center_through(a: Point, b: Point, r: f32) -> Point
     ensures { result ≡ circle_center_through_of a b r }
 {
@@ -167,6 +167,7 @@ pub fn circle_center_through(a: Point, b: Point, r: f32) -> Point
 }
 
 // The signed angle from one vector to another.
+#[tactic(auto, unfolding(crate::specs::Octant::angle_between_of))]
 pub fn angle_between(from: Point, to: Point) -> f32
     ensures { result ≡ angle_between_of from to }
 {
@@ -182,6 +183,7 @@ pub struct Fitted {
     pub xj_over_a: f32,
 }
 
+#[tactic(auto, unfolding(crate::specs::Stages::fitted_of))]
 pub fn fit(a: f32, radius: f32) -> Fitted
     ensures { result ≡ fitted_of a radius }
 {
@@ -196,6 +198,7 @@ pub fn fit(a: f32, radius: f32) -> Fitted
     }
 }
 
+#[tactic(auto, unfolding(crate::specs::Stages::finished_of))]
 pub fn finished(center: Point, a: f32, s: Fitted, yj: f32, tan_phij: f32) -> Octant
     ensures { result ≡ finished_of center a s yj tan_phij }
 {
@@ -266,6 +269,7 @@ pub fn round_octants<const N: usize>(u: [Unsolved; N]) -> [Octant; N]
     })
 }
 
+#[tactic(auto, unfolding(crate::specs::Octant::compute_octant_of))]
 pub fn compute_octant(center: Point, a: f32, radius: f32) -> Octant
     ensures { result ≡ compute_octant_of center a radius }
 {
@@ -294,17 +298,12 @@ pub fn compute_octants<const N: usize>(u: [Unsolved; N]) -> [Octant; N]
 }
 
 // The same octant elsewhere: nothing but the offset tells where an octant is.
+#[tactic(auto, unfolding(crate::specs::Octant::moved_of))]
 pub fn moved(octant: Octant, center: Point) -> Octant
     ensures { result ≡ moved_of octant center }
 {
-    let circle_start = octant.circle_start;
-    let circle_center = octant.circle_center;
     Octant {
         offset: center,
-        se_a: octant.se_a,
-        se_n: octant.se_n,
-        circle_start,
-        circle_center,
-        circle_max_angle: octant.circle_max_angle,
+        ..octant
     }
 }
