@@ -50,7 +50,8 @@ const THIRD_N_SLOPE: f32 = 1.559_599_4;
 
 const THIRD_KXJ_SLOPE: f32 = 0.522_807_2;
 
-// One eighth of the outline, in the space of a corner with equal radii. A degree below 2 marks a square corner.
+// One eighth of the outline, in the space of a corner with equal radii. A degree below 2 marks a square corner, and no enum does:
+// document 01 has an octant as one record of floats and points.
 #[derive(Clone, Copy)]
 pub struct Octant {
     pub offset: Point,
