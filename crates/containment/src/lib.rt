@@ -180,6 +180,8 @@ pub struct Arcs {
     pub center_y: Point,
     // Squared.
     pub radius: Point,
+    // A flag, and no enum round the points: `touch` takes the offset of a square corner too, and the flag is one of the tests that
+    // `is_beyond_arcs` makes with no branch between them.
     pub is_round: bool,
 }
 
