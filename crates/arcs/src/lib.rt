@@ -62,6 +62,7 @@ pub struct Placement {
 }
 
 // A degree is capped at the table's last, and not raised to its first.
+#[tactic(auto, unfolding(crate::specs::Conics::capped_degree))]
 fn capped_degree(n: f32) -> f32
     ensures { result ≡ capped_degree n }
 {
@@ -74,6 +75,7 @@ fn capped_degree(n: f32) -> f32
 
 // Only the right-hand term of each interpolation is multiplied by the root or by xj_over_a: the weights drop back to
 // the table's at each whole degree.
+#[tactic(auto, unfolding(crate::specs::Conics::superellipse_conic_factors_of, crate::specs::Conics::conic_at))]
 pub fn superellipse_conic_factors(n: f32, xj_over_a: f32) -> ConicFactors
     ensures { result ≡ superellipse_conic_factors_of n xj_over_a }
 {
@@ -93,6 +95,7 @@ pub fn superellipse_conic_factors(n: f32, xj_over_a: f32) -> ConicFactors
 }
 
 // The intersection of two lines, each given by a point and a slope.
+#[tactic(auto, unfolding(crate::specs::Conics::intersection_of))]
 pub fn intersection(p1: Point, k1: f32, p2: Point, k2: f32) -> Point
     ensures { result ≡ intersection_of p1 k1 p2 k2 }
 {
@@ -107,6 +110,7 @@ pub fn intersection(p1: Point, k1: f32, p2: Point, k2: f32) -> Point
 }
 
 // The conics of an octant whose first ends at h, by the slopes there and where the circle starts.
+#[tactic(auto, unfolding(crate::specs::Conics::joined_of))]
 pub fn joined(param: Octant, f: ConicFactors, h: Point, k_h: f32, k_j: f32) -> SuperellipseConics
     ensures { result ≡ joined_of param f h k_h k_j }
 {
@@ -128,6 +132,7 @@ pub fn joined(param: Octant, f: ConicFactors, h: Point, k_h: f32, k_j: f32) -> S
 }
 
 // The height over a at which the conics meet.
+#[tactic(auto, unfolding(crate::specs::Conics::meeting_of))]
 pub fn meeting(f: ConicFactors, yj_over_a: f32) -> f32
     ensures { result ≡ meeting_of f yj_over_a }
 {
@@ -165,6 +170,7 @@ pub fn arc_points(param: Octant, sin: f32, cos: f32, tan: f32) -> [Point; 4]
     [start, control1, control2, circle_end]
 }
 
+#[tactic(auto, unfolding(crate::specs::Placement::flipped_of))]
 fn flipped(flip: bool, p: Point) -> Point
     ensures { result ≡ flipped_of flip p }
 {
@@ -175,6 +181,7 @@ fn flipped(flip: bool, p: Point) -> Point
 }
 
 impl Placement {
+    #[tactic(auto, unfolding(crate::specs::Placement::apply_of))]
     pub fn apply(self, p: Point) -> Point
         ensures { result ≡ apply_of self p }
     {

@@ -4,7 +4,7 @@ use Rattle.std.specs.Float.Ieee.{lt, le, eq}
 use Rattle.geometry.specs.declared.Point.{Point}
 use Rattle.geometry.specs.Point.{one, sub_of, div_of, shrink_of, abs_point, length_squared_of, distance_squared_of}
 use Rattle.exponential.specs.Power.{pow_of}
-use Rattle.octant.specs.Binary32.{◌⊕◌, ◌⊖◌, zero, two}
+use Rattle.octant.specs.Binary32.{◌⊕◌, ◌⊖◌, zero}
 use Rattle.octant.specs.Octant.{point}
 use Rattle.octant.specs.declared.Octant.{Octant}
 use Rattle.quadrant.specs.declared.Quadrant.{Quadrant}

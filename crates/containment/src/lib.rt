@@ -88,6 +88,7 @@ fn square_contains(param: Quadrant, norm_point: Point) -> bool
 
 // The top octant's powers are asked for here, and the right one's in `octant_contains`: called from two places, they are
 // compiled apart from the tests, which then are compiled in place.
+#[tactic(auto, using(crate::proofs::Asking::asked), unfolding(crate::specs::Contains::round_contains))]
 fn round_contains(param: Quadrant, norm_point: Point) -> bool
     ensures { result ≡ round_contains param norm_point }
 {
@@ -179,6 +180,8 @@ pub struct Arcs {
     pub center_y: Point,
     // Squared.
     pub radius: Point,
+    // A flag, and no enum round the points: `touch` takes the offset of a square corner too, and the flag is one of the tests that
+    // `is_beyond_arcs` makes with no branch between them.
     pub is_round: bool,
 }
 

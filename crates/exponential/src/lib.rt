@@ -59,6 +59,7 @@ struct LogParts {
     e: f64,
 }
 
+#[tactic(auto, unfolding(crate::specs::Logarithm::ln_at))]
 fn log_parts_of(b: f32) -> LogParts
     requires { T (positive b) }
     ensures { SplitAt result.s result.e (widen_of b) }
@@ -70,9 +71,10 @@ fn log_parts_of(b: f32) -> LogParts
     }
 }
 
-// The logarithms of N numbers, in step.
+// The logarithms of N numbers, in step. The bound on N, here and in each function below that has it: N records of two f64 fit in
+// memory, which the types of the arrays of floats do not say.
 fn logarithms<const N: usize>(b: [f32; N]) -> [f64; N]
-    requires few { N < 2 ^ 32 }
+    requires few { N < 2 ^ 59 }
     requires above_zero { All (λ (x : Float). T (positive x)) b }
     ensures { result ≡ map (λ (x : Float). ln_of (widen_of x)) b.entry }
 {
@@ -83,6 +85,7 @@ fn logarithms<const N: usize>(b: [f32; N]) -> [f64; N]
 }
 
 // The greatest whole number not above q, and BIAS more.
+#[tactic(auto, using(crate::proofs::Floors::floor_next, crate::proofs::Floors::floor_here))]
 fn biased_floor(q: f64) -> f64
     requires { T (within q) }
     ensures { result ≡ of_int binary64 (floor_of q +ℤ pos 6755399441056767) }
@@ -114,7 +117,6 @@ pub fn reduce(t: f64) -> Reduced
 
 // The exponentials of N numbers that are reduced, in step.
 fn scaled<const N: usize>(p: [Reduced; N]) -> [f64; N]
-    requires { N < 2 ^ 32 }
     ensures { result ≡ map (λ (x : Reduced). scaled_of x.r x.power) p.entry }
 {
     let c = series::factorial_reciprocals();
@@ -122,6 +124,7 @@ fn scaled<const N: usize>(p: [Reduced; N]) -> [f64; N]
     lanes::pairwise(h, p, |h, p| h * p.power)
 }
 
+#[tactic(auto, using(crate::proofs::Specials::nan64_is, crate::proofs::Specials::inf64_is), unfolding(crate::specs::Exponential::exp_of))]
 pub fn exp(t: f64) -> f64
     ensures { result ≡ exp_of t }
 {
@@ -139,6 +142,7 @@ pub fn exp(t: f64) -> f64
 }
 
 // Neither a NaN nor so far from 0 that exp is 0 or infinite.
+#[tactic(auto, unfolding(crate::specs::Plain::moderate))]
 pub fn is_moderate(t: f64) -> bool
     ensures { result ≡ moderate t }
 {
@@ -147,7 +151,7 @@ pub fn is_moderate(t: f64) -> bool
 
 // In step where each is moderate.
 fn exponentials<const N: usize>(t: [f64; N]) -> [f64; N]
-    requires { N < 2 ^ 32 }
+    requires { N < 2 ^ 59 }
     ensures { result ≡ map exp_of t.entry }
 {
     if lanes::all(t, is_moderate) {
@@ -162,27 +166,19 @@ fn is_infinite(x: f32) -> bool
     x == 1.0 / 0.0 || x == -1.0 / 0.0
 }
 
-fn zero_if(c: bool) -> f32
-    ensures { result ≡ cond c zero (inf false) }
+#[tactic(auto, using(crate::proofs::Specials::inf32_is))]
+fn zero_or_infinity(is_zero: bool) -> f32
+    ensures { result ≡ cond is_zero zero (inf false) }
 {
-    if c {
+    if is_zero {
         return 0.0f32;
     }
     1.0 / 0.0
 }
 
-fn infinity_if(c: bool) -> f32
-    ensures { result ≡ cond c (inf false) zero }
-{
-    if c {
-        return 1.0 / 0.0;
-    }
-    0.0f32
-}
-
 // The last rule of pow.
 fn main_powers<const N: usize>(b: [f32; N], y: [f32; N]) -> [f32; N]
-    requires few { N < 2 ^ 32 }
+    requires few { N < 2 ^ 59 }
     requires above_zero { All (λ (x : Float). T (positive x)) b }
     ensures { result ≡ zip2 main_of b.entry y.entry }
 {
@@ -190,6 +186,7 @@ fn main_powers<const N: usize>(b: [f32; N], y: [f32; N]) -> [f32; N]
     lanes::narrow(exponentials(lanes::pairwise(l, lanes::widen(y), |l, y| y * l)))
 }
 
+#[tactic(auto, using(crate::proofs::Specials::nan32_is), unfolding(crate::specs::Power::pow_of))]
 pub fn pow(b: f32, y: f32) -> f32
     ensures { result ≡ pow_of b y }
 {
@@ -209,19 +206,20 @@ pub fn pow(b: f32, y: f32) -> f32
         return 1.0f32;
     }
     if b == 0.0 {
-        return zero_if(y > 0.0);
+        return zero_or_infinity(y > 0.0);
     }
     if is_infinite(b) {
-        return infinity_if(y > 0.0);
+        return zero_or_infinity(!(y > 0.0));
     }
     if is_infinite(y) {
-        return zero_if((b < 1.0) == (y > 0.0));
+        return zero_or_infinity((b < 1.0) == (y > 0.0));
     }
     let [p] = main_powers([b], [y]);
     p
 }
 
 // Whether none of pow's rules but the last applies.
+#[tactic(auto, unfolding(crate::specs::Plain::plain))]
 pub fn is_plain(b: f32, y: f32) -> bool
     ensures { result ≡ plain b y }
 {
@@ -231,7 +229,7 @@ pub fn is_plain(b: f32, y: f32) -> bool
 
 // The powers of N bases, each by the exponent at its place. They go in step where none is a special case, so that none waits for another.
 pub fn powers<const N: usize>(b: [f32; N], y: [f32; N]) -> [f32; N]
-    requires { N < 2 ^ 32 }
+    requires { N < 2 ^ 59 }
     ensures { result ≡ zip2 pow_of b.entry y.entry }
 {
     if lanes::all(lanes::pairwise(b, y, is_plain), |p| p) {

@@ -6,6 +6,7 @@ use lib.Ieee.Bits.{to_bits-lt}
 use lib.Ieee.Compare.{differs_from_itself}
 use lib.Ieee.Fits.{inf-fits}
 use lib.Ieee.Scale.{finite}
+use Rattle.std.specs.Float.{float_with_sign}
 use Rattle.ieee.specs.Basic.{abs_of}
 use Rattle.ieee.proofs.Units.{bits-inf, no_nan-bits, read_back, self_equal}
 
@@ -17,6 +18,13 @@ inf32_is = refl
 pub minus_inf32_is : div binary32 (neg (of_bits binary32 0x3f80_0000)) (of_bits binary32 0) ≡ inf true
 unfolding div neg of_bits
 minus_inf32_is = refl
+
+-- ---- the library's `abs` clears the sign as `abs_of` does
+pub with_plus : (x : Float) → float_with_sign false x ≡ abs_of x
+unfolding float_with_sign abs_of
+with_plus nan = refl
+with_plus (inf s) = refl
+with_plus (fin s m e) = refl
 
 -- ---- between the infinities
 pub finite-is : (x : Float) → (lt (inf true) x && lt x (inf false)) ≡ finite x

@@ -35,6 +35,15 @@ pub fn abs(x: f32) -> f32
     f32::from_bits(f32::to_bits(x) % 0x8000_0000)
 }
 
+// The library's own, which the definition here says too.
+#[tactic(auto, using(crate::proofs::Simple::with_plus))]
+pub fn abs_f64(x: f64) -> f64
+    ensures { result ≡ abs_of x }
+{
+    x.abs()
+}
+
+// Not the library's, which may answer either of 0 and -0: here the first.
 #[tactic(auto, unfolding(crate::specs::Basic::min_of))]
 pub fn min(a: f32, b: f32) -> f32
     ensures { result ≡ min_of a b }
@@ -48,6 +57,7 @@ pub fn min(a: f32, b: f32) -> f32
     a
 }
 
+// As `min`, the first of 0 and -0.
 #[tactic(auto, unfolding(crate::specs::Basic::max_of))]
 pub fn max(a: f32, b: f32) -> f32
     ensures { result ≡ max_of a b }
@@ -61,6 +71,7 @@ pub fn max(a: f32, b: f32) -> f32
     a
 }
 
+// Not the library's, which asks that lo is at most hi.
 #[tactic(auto, unfolding(crate::specs::Basic::clamp_of))]
 pub fn clamp(x: f32, lo: f32, hi: f32) -> f32
     ensures { result ≡ clamp_of x lo hi }

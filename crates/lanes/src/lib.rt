@@ -9,7 +9,7 @@ ghost use Rattle.std.specs.Simd.Lanes.{zip2};
 ghost use Rattle.ieee.specs.Basic.{widen_of};
 ghost use Rattle.ieee.specs.Narrow.{narrow_of};
 
-// What f makes of each.
+// What f makes of each. Not the array's own `map`, which asks more of callers: that an iterator over the array fits in memory.
 pub fn each<A: Copy, B, F: Fn(A) -> B, const N: usize>(x: [A; N], f: F) -> [B; N]
     requires { All (F.pre f) x }
     ensures values { AllZip (F.post f) x result }

@@ -2,16 +2,18 @@
 use mathlib.Core.Path.{◌≡◌, refl, sym, ap, ◌∙◌, subst}
 use mathlib.Core.Logic.{◌⊎◌, inl, inr}
 use mathlib.Core.Bool.{Bool, true, false, not, ◌&&◌, ◌||◌, true≢false}
-use Prim.Native.Nat.{ℕ, ◌-◌, ◌*◌, ◌/◌, ◌^◌, ◌≤◌, ◌<◌, min}
+use Prim.Native.Nat.{ℕ, zero, suc, ◌+◌, ◌-◌, ◌*◌, ◌/◌, ◌^◌, ◌≤◌, ◌<◌, min}
 use native.Mathlib.Nat.{mul-one, mul_right_comm, mul-pos, le-div_iff_mul-le, div-lt_iff_lt-mul, mul-le-mul_right, mul-lt-mul_of_pos_right}
 use native.Mathlib.Omega.{arith}
-use borrow.Author.Tests.{le-leb, lt-leb, lt-ltb, le-ltb, eq-eqb, ne_eqb}
+use borrow.Author.Tests.{leb-true, leb-false, le-leb, lt-leb, lt-ltb, le-ltb, eq-eqb, ne_eqb}
 use lib.Dec.{T, leb, ltb, eqb, leb→le, nleb→lt, le→leb}
 use lib.IntN.{pos}
 use lib.Ieee.{Float, nan, inf, fin, binary32, of_int, round, lt, le, eq, up, down, to_unsigned, in_float}
 use lib.Ieee.Fits.{down_pos}
 use lib.Ieee.Exact.{HasValue}
 use lib.Ieee.Back.{round_whole}
+use Rattle.std.proofs.Common.{Option, Some, None}
+use Rattle.std.specs.Option.{MatchOption, unwrap_or}
 use Rattle.octant.specs.Degree.{left_row_of}
 
 -- The left row is in range, for every float.
@@ -92,3 +94,22 @@ le-whole k x p h = le_value (round binary32 false k 1) x k p h (round_whole bina
 pub casts : (k : ℕ) → k ≤ 2 ^ 24 → T (in_float binary32 (pos k))
 unfolding in_float
 casts k h = le→leb k (2 ^ 24) h
+
+-- ---- of the numbers below `last`, the first after which no further step is taken, or `last`
+reaches : (k : ℕ) (x : Float) → k < 256 → le (of_int binary32 (pos (k + 1))) x ≡ true → k < to_unsigned 64 x
+reaches k x l h = let e = leb-true (k + 1) (to_unsigned 64 x) (sym (le-whole (k + 1) x (omega arith) (omega arith)) ∙ h) in omega arith
+
+stays : (k : ℕ) (x : Float) → k < 256 → le (of_int binary32 (pos (k + 1))) x ≡ false → to_unsigned 64 x ≤ k
+stays k x l h = let e = leb-false (k + 1) (to_unsigned 64 x) (sym (le-whole (k + 1) x (omega arith) (omega arith)) ∙ h) in omega arith
+
+pub first_left : (r : Option ℕ) (x : Float) (last : ℕ) → last < 256
+    → MatchOption r ((k : ℕ) → 0 ≤ k → k < last → le (of_int binary32 (pos (k + 1))) x ≡ true) (λ i. (0 ≤ i) × (i < last) × (le (of_int binary32 (pos (i + 1))) x ≡ false) × ((k : ℕ) → 0 ≤ k → k < i → le (of_int binary32 (pos (k + 1))) x ≡ true))
+    → unwrap_or r last ≡ left_row_of x last
+first_left None x zero l m = omega arith
+first_left None x (suc last) l m = let h = reaches last x (omega arith) (m last (omega arith) (omega arith)) in omega arith
+first_left (Some zero) x last l m = let h = stays 0 x (omega arith) m.2 in omega arith
+first_left (Some (suc i)) x last l m =
+    let b : suc i < last = m.1 in
+    let h = stays (suc i) x (omega arith) m.2 in
+    let k = reaches i x (omega arith) (m.3 i (omega arith) (omega arith)) in
+    omega arith

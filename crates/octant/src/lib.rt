@@ -50,7 +50,8 @@ const THIRD_N_SLOPE: f32 = 1.559_599_4;
 
 const THIRD_KXJ_SLOPE: f32 = 0.522_807_2;
 
-// One eighth of the outline, in the space of a corner with equal radii. A degree below 2 marks a square corner.
+// One eighth of the outline, in the space of a corner with equal radii. A degree below 2 marks a square corner, and no enum does:
+// document 01 has an octant as one record of floats and points.
 #[derive(Clone, Copy)]
 pub struct Octant {
     pub offset: Point,
@@ -68,6 +69,7 @@ pub struct NAndXj {
     pub xj_over_a: f32,
 }
 
+#[tactic(auto, unfolding(crate::specs::Degree::corner_at))]
 fn corner(row: usize, column: usize) -> f32
     requires { (row < 11) × (column < 2) }
     ensures { result ≡ corner_at row column }
@@ -102,16 +104,13 @@ pub fn left_row(steps: f32, last: u8) -> usize
     ensures { result ≡ left_row_of steps last }
 {
     let end = usize::from(last);
-    for left in 0..end {
-        if steps >= (left + 1) as f32 {
-            continue;
-        }
-        return left;
-    }
-    end
+    (0..end)
+        .find(|&left| !(steps >= (left + 1) as f32))
+        .unwrap_or(end)
 }
 
 // Where a ratio stands among the rows.
+#[tactic(auto, unfolding(crate::specs::Degree::table_steps_of))]
 fn table_steps(ratio: f32) -> f32
     ensures { result ≡ table_steps_of ratio }
 {
@@ -122,6 +121,7 @@ fn table_steps(ratio: f32) -> f32
 }
 
 // The degree n and xJ/a for a ratio of side to radius.
+#[tactic(auto, unfolding(crate::specs::Degree::n_and_xj_of, crate::specs::Degree::corner_at))]
 pub fn n_and_xj(ratio: f32) -> NAndXj
     ensures { result ≡ n_and_xj_of ratio }
 {
@@ -146,6 +146,7 @@ pub fn n_and_xj(ratio: f32) -> NAndXj
 }
 
 // The center of the circle of radius r through both a and b.
+#[tactic(auto, using(crate::proofs::Turned::turned), unfolding(crate::specs::Octant::circle_center_through_of, geometry::specs::Point::normalize_of))]
 pub fn circle_center_through(a: Point, b: Point, r: f32) -> Point
     ensures { result ≡ circle_center_through_of a b r }
 {
@@ -167,6 +168,7 @@ pub fn circle_center_through(a: Point, b: Point, r: f32) -> Point
 }
 
 // The signed angle from one vector to another.
+#[tactic(auto, unfolding(crate::specs::Octant::angle_between_of))]
 pub fn angle_between(from: Point, to: Point) -> f32
     ensures { result ≡ angle_between_of from to }
 {
@@ -182,6 +184,7 @@ pub struct Fitted {
     pub xj_over_a: f32,
 }
 
+#[tactic(auto, unfolding(crate::specs::Stages::fitted_of))]
 pub fn fit(a: f32, radius: f32) -> Fitted
     ensures { result ≡ fitted_of a radius }
 {
@@ -196,6 +199,7 @@ pub fn fit(a: f32, radius: f32) -> Fitted
     }
 }
 
+#[tactic(auto, unfolding(crate::specs::Stages::finished_of))]
 pub fn finished(center: Point, a: f32, s: Fitted, yj: f32, tan_phij: f32) -> Octant
     ensures { result ≡ finished_of center a s yj tan_phij }
 {
@@ -243,7 +247,6 @@ struct Solve {
 // N solves in step. Within a solve each power waits for the one before; a power of another solve need not, so that all are
 // worked out at once.
 fn solves<const N: usize>(u: [Unsolved; N]) -> [Solve; N]
-    requires { N < 2 ^ 32 }
     ensures { result ≡ map solve_of u.entry }
 {
     let s = lanes::each(u, |u| fit(u.a, u.radius));
@@ -260,7 +263,6 @@ fn solves<const N: usize>(u: [Unsolved; N]) -> [Solve; N]
 
 // N octants that are round: none has a radius up to CLOSE_ENOUGH.
 pub fn round_octants<const N: usize>(u: [Unsolved; N]) -> [Octant; N]
-    requires { N < 2 ^ 32 }
     ensures { result ≡ map round_of u.entry }
 {
     lanes::pairwise(u, solves(u), |u, s| {
@@ -268,6 +270,7 @@ pub fn round_octants<const N: usize>(u: [Unsolved; N]) -> [Octant; N]
     })
 }
 
+#[tactic(auto, unfolding(crate::specs::Octant::compute_octant_of))]
 pub fn compute_octant(center: Point, a: f32, radius: f32) -> Octant
     ensures { result ≡ compute_octant_of center a radius }
 {
@@ -287,7 +290,6 @@ pub fn compute_octant(center: Point, a: f32, radius: f32) -> Octant
 
 // N octants, in step where all are round.
 pub fn compute_octants<const N: usize>(u: [Unsolved; N]) -> [Octant; N]
-    requires { N < 2 ^ 32 }
     ensures { result ≡ map (λ (o : Unsolved). compute_octant_of o.center o.a o.radius) u.entry }
 {
     if lanes::all(u, |u| !(u.radius <= CLOSE_ENOUGH)) {
@@ -297,17 +299,12 @@ pub fn compute_octants<const N: usize>(u: [Unsolved; N]) -> [Octant; N]
 }
 
 // The same octant elsewhere: nothing but the offset tells where an octant is.
+#[tactic(auto, unfolding(crate::specs::Octant::moved_of))]
 pub fn moved(octant: Octant, center: Point) -> Octant
     ensures { result ≡ moved_of octant center }
 {
-    let circle_start = octant.circle_start;
-    let circle_center = octant.circle_center;
     Octant {
         offset: center,
-        se_a: octant.se_a,
-        se_n: octant.se_n,
-        circle_start,
-        circle_center,
-        circle_max_angle: octant.circle_max_angle,
+        ..octant
     }
 }

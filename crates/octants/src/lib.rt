@@ -61,9 +61,10 @@ fn met(s: Start, x: f32) -> Point
     }
 }
 
-// The superellipse arcs of N octants. The tangents fall, by as much as the slopes.
+// The superellipse arcs of N octants. The tangents fall, by as much as the slopes. The bound on N: N records `Start` fit in
+// memory, which the types of o and the result do not say, since a `Start` is larger.
 pub fn superellipse_conics<const N: usize>(o: [Octant; N]) -> [SuperellipseConics; N]
-    requires { N < 2 ^ 32 }
+    requires { N < 2 ^ 57 }
     ensures { result ≡ map conics_of o.entry }
 {
     let s = lanes::each(o, started);
@@ -98,7 +99,6 @@ fn arc(o: Octant, t: Turn) -> [Point; 4]
 
 // The circular arcs of N octants, each as a cubic: start, two controls, end.
 pub fn circular_arc_points<const N: usize>(o: [Octant; N]) -> [[Point; 4]; N]
-    requires { N < 2 ^ 32 }
     ensures { result ≡ map circular_arc_points_of o.entry }
 {
     let turns = turns::sin_cos(lanes::each(o, |o| -o.circle_max_angle));

@@ -4,7 +4,7 @@
 #![tactic(auto)]
 
 ghost use Rattle.std.specs.Prelude.{◌≡◌, true};
-ghost use Rattle.quadrant.specs.Quadrant.{forward_scale_of, or_sign_of, frame_of, top_offset_of, right_offset_of, top_octant_of, right_octant_of, joined_of, solved_of, compute_quadrant_of, both_zero, split_of, square_corner};
+ghost use Rattle.quadrant.specs.Quadrant.{forward_scale_of, or_sign_of, frame_of, top_offset_of, right_offset_of, top_octant_of, right_octant_of, joined_of, solved_of, compute_quadrant_of, split_of, square_corner};
 
 use geometry::Point;
 use octant::{Octant, Unsolved};
@@ -114,13 +114,13 @@ pub fn right_offset(f: Frame) -> Point
     Point { x: c, y: 0.0 }
 }
 
-// The two octants of a corner, unsolved.
+// The two octants of a corner, unsolved. Not one function for both sides: it would take the side by an enum, and its body
+// would be these two under a match.
 pub fn top_octant(f: Frame) -> Unsolved
     ensures { result ≡ top_octant_of f }
 {
-    let center = top_offset(f);
     Unsolved {
-        center,
+        center: top_offset(f),
         a: f.half_size.x,
         radius: f.radius,
     }
@@ -129,9 +129,8 @@ pub fn top_octant(f: Frame) -> Unsolved
 pub fn right_octant(f: Frame) -> Unsolved
     ensures { result ≡ right_octant_of f }
 {
-    let center = right_offset(f);
     Unsolved {
-        center,
+        center: right_offset(f),
         a: f.half_size.y,
         radius: f.radius,
     }
@@ -141,17 +140,16 @@ pub fn right_octant(f: Frame) -> Unsolved
 pub fn joined(f: Frame, top: Octant, right: Octant) -> Quadrant
     ensures { result ≡ joined_of f top right }
 {
-    let offset = f.offset;
-    let signed_scale = f.signed_scale;
     Quadrant {
-        offset,
-        signed_scale,
+        offset: f.offset,
+        signed_scale: f.signed_scale,
         top,
         right,
     }
 }
 
 // The quadrant of a corner, solved. Octants of the same half-extent differ in their offset alone, so one solve serves both.
+#[tactic(auto, unfolding(crate::specs::Quadrant::solved_of))]
 pub fn solved(f: Frame) -> Quadrant
     ensures { result ≡ solved_of f }
 {
@@ -163,25 +161,19 @@ pub fn solved(f: Frame) -> Quadrant
     joined(f, top, right)
 }
 
+#[tactic(auto, using(crate::proofs::Framed::framed))]
 pub fn compute_quadrant(center: Point, corner: Point, in_radii: Point, sign: Point) -> Quadrant
     ensures { result ≡ compute_quadrant_of center corner in_radii sign }
 {
     solved(frame_of(center, corner, in_radii, sign))
 }
 
-#[tactic(auto, unfolding(crate::specs::Quadrant::both_zero))]
-fn both_zero(a: f32, b: f32) -> bool
-    ensures { result ≡ both_zero a b }
-{
-    a == 0.0 && b == 0.0
-}
-
 // Where two adjacent corners divide the side they share, in proportion to their radii.
-#[tactic(auto, unfolding(crate::specs::Quadrant::split_of))]
+#[tactic(auto, unfolding(crate::specs::Quadrant::split_of, crate::specs::Quadrant::both_zero))]
 pub fn split(low: f32, high: f32, ratio_low: f32, ratio_high: f32) -> f32
     ensures { result ≡ split_of low high ratio_low ratio_high }
 {
-    if both_zero(ratio_low, ratio_high) {
+    if ratio_low == 0.0 && ratio_high == 0.0 {
         return (low + high) / 2.0;
     }
     (low * ratio_high + high * ratio_low) / (ratio_low + ratio_high)

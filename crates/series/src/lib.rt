@@ -12,13 +12,11 @@ ghost use Rattle.series.specs.Coefficients.{terms, odd_reciprocal, factorial_rec
 pub fn horner<const N: usize>(cs: &[f64], z: [f64; N]) -> [f64; N]
     ensures { result ≡ map (horner_of binary64 cs.now) z.entry }
 {
-    let n = cs.len();
-    if n == 0 {
+    let Some((&last, rest)) = cs.split_last() else {
         return [0.0; N];
-    }
-    let mut h = [cs[n - 1]; N];
-    for k in (0..n - 1).rev() {
-        let c = cs[k];
+    };
+    let mut h = [last; N];
+    for &c in rest.iter().rev() {
         h = lanes::pairwise(h, z, |h, z| h * z + c);
     }
     h

@@ -24,6 +24,7 @@ pub struct Bounds {
     pub max: Point,
 }
 
+// Four points named by corner, as document 01 has them, and no array.
 #[derive(Clone, Copy)]
 pub struct CornerRadii {
     pub top_left: Point,
@@ -32,7 +33,8 @@ pub struct CornerRadii {
     pub bottom_right: Point,
 }
 
-// Where all corners are the same, one quadrant describes all four, and containment mirrors the point.
+// Where all corners are the same, one quadrant describes all four, and containment mirrors the point. A yes or no beside the four,
+// and no enum, since document 01 has the record so.
 #[derive(Clone, Copy)]
 pub struct RoundSuperellipse {
     pub top_right: Quadrant,
@@ -122,6 +124,7 @@ fn frame_at(x: f32, y: f32, corner: Point, radii: Point, u: f32, v: f32) -> Fram
 }
 
 // The four corners before their octants are solved, about the points where they divide their sides.
+#[tactic(auto, using(quadrant::proofs::Framed::framed), unfolding(crate::specs::Shape::unequal_shape))]
 fn frames(bounds: Bounds, radii: CornerRadii) -> [Frame; 4]
     ensures { map solved_of result ≡ corners_in_order (unequal_shape bounds radii) }
 {

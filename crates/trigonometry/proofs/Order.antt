@@ -54,13 +54,16 @@ unfolding le
 split a b = refl
 
 -- the lesser over the greater, by the test a < b
+abbrev over : Float × Float → Float
+over p = div binary64 p.0 p.1
+
 abbrev ratio : Float → Float → Float
-ratio a b = div binary64 (cond (lt a b) a b) (cond (lt a b) b a)
+ratio a b = over (cond (lt a b) (a, b) (b, a))
 
 ratio_up : (f : Format) (y x : Float) → T (fits f y) → T (fits f x) → le (abs_of y) (abs_of x) ≡ true → ratio (abs_of y) (abs_of x) ≡ div binary64 (abs_of y) (abs_of x)
 ratio_up f y x F G h = go (lt (abs_of y) (abs_of x)) (eq (abs_of y) (abs_of x)) refl (sym (split (abs_of y) (abs_of x)) ∙ h)
   where
-    go : (t u : Bool) → eq (abs_of y) (abs_of x) ≡ u → (t || u) ≡ true → div binary64 (cond t (abs_of y) (abs_of x)) (cond t (abs_of x) (abs_of y)) ≡ div binary64 (abs_of y) (abs_of x)
+    go : (t u : Bool) → eq (abs_of y) (abs_of x) ≡ u → (t || u) ≡ true → over (cond t (abs_of y, abs_of x) (abs_of x, abs_of y)) ≡ div binary64 (abs_of y) (abs_of x)
     go true u e k = refl
     go false true e k = let s = level f y x F G e in ap₂ (div binary64) (sym s) s
     go false false e k = absurd (false≢true k)
@@ -68,7 +71,7 @@ ratio_up f y x F G h = go (lt (abs_of y) (abs_of x)) (eq (abs_of y) (abs_of x)) 
 ratio_down : (a b : Float) → le a b ≡ false → ratio a b ≡ div binary64 b a
 ratio_down a b h = go (lt a b) (eq a b) (sym (split a b) ∙ h)
   where
-    go : (t u : Bool) → (t || u) ≡ false → div binary64 (cond t a b) (cond t b a) ≡ div binary64 b a
+    go : (t u : Bool) → (t || u) ≡ false → over (cond t (a, b) (b, a)) ≡ div binary64 b a
     go true u k = absurd (true≢false k)
     go false u k = refl
 

@@ -28,6 +28,7 @@ pub struct Pair {
     pub c: f64,
 }
 
+#[tactic(auto, unfolding(series::specs::Coefficients::terms, series::specs::Coefficients::alternating, crate::specs::Sine::sine_term))]
 pub fn sine_coefficients() -> [f64; 8]
     ensures { result ≡ terms sine_term 8 }
 {
@@ -35,6 +36,7 @@ pub fn sine_coefficients() -> [f64; 8]
     [f[1], -f[3], f[5], -f[7], f[9], -f[11], f[13], -f[15]]
 }
 
+#[tactic(auto, unfolding(series::specs::Coefficients::terms, series::specs::Coefficients::alternating, crate::specs::Sine::cosine_term))]
 pub fn cosine_coefficients() -> [f64; 8]
     ensures { result ≡ terms cosine_term 8 }
 {
@@ -44,7 +46,6 @@ pub fn cosine_coefficients() -> [f64; 8]
 
 // The sines and cosines of N numbers / 16, in step. A division, and not a product with 1 / 16, as document 01 writes it.
 pub fn sixteenths<const N: usize>(t: [f64; N]) -> [Pair; N]
-    requires { N < 2 ^ 32 }
     ensures { result ≡ map sixteenth_of t.entry }
 {
     let q = lanes::each(t, |t| t / 16.0);
@@ -56,6 +57,7 @@ pub fn sixteenths<const N: usize>(t: [f64; N]) -> [Pair; N]
 }
 
 // The pair of twice the angle.
+#[tactic(auto, unfolding(crate::specs::Sine::doubled_of))]
 fn doubled(p: Pair) -> Pair
     ensures { result ≡ doubled_of p }
 {
@@ -78,6 +80,7 @@ pub fn in_range(t: f32) -> bool
     -8.0 <= t && t <= 8.0
 }
 
+#[tactic(auto, using(crate::proofs::Specials::nan64_is), unfolding(crate::specs::Sine::pair_of, ieee::specs::Basic::widen_of))]
 pub fn pair_at(t: f32) -> Pair
     ensures { result ≡ pair_of (widen_of t) }
 {
@@ -91,6 +94,7 @@ pub fn pair_at(t: f32) -> Pair
     }
 }
 
+#[tactic(auto, unfolding(crate::specs::Sine::sin_cos_of))]
 pub fn sin_cos(t: f32) -> SinCos
     ensures { result ≡ sin_cos_of t }
 {
@@ -101,6 +105,7 @@ pub fn sin_cos(t: f32) -> SinCos
     }
 }
 
+#[tactic(auto, unfolding(crate::specs::Sine::tan_of))]
 pub fn tan(t: f32) -> f32
     ensures { result ≡ tan_of t }
 {
@@ -108,6 +113,7 @@ pub fn tan(t: f32) -> f32
     ieee::narrow(p.s / p.c)
 }
 
+#[tactic(auto, unfolding(series::specs::Coefficients::terms, series::specs::Coefficients::alternating, crate::specs::Arctangent::arctangent_term))]
 fn arctangent_coefficients() -> [f64; 26]
     ensures { result ≡ terms arctangent_term 26 }
 {
@@ -120,6 +126,7 @@ fn arctangent_coefficients() -> [f64; 26]
 }
 
 // T of document 01.
+#[tactic(auto, unfolding(crate::specs::Arctangent::series_of, series::specs::Coefficients::H))]
 fn arctangent_series(r: f64) -> f64
     ensures { result ≡ series_of r }
 {
@@ -139,6 +146,7 @@ fn reduced(r: f64) -> f64
 }
 
 // A of document 01. The series stands once, so that no branch but a choice between numbers is left.
+#[tactic(auto, unfolding(crate::specs::Arctangent::arctangent_of))]
 fn arctangent(r: f64) -> f64
     ensures { result ≡ arctangent_of r }
 {
@@ -149,22 +157,14 @@ fn arctangent(r: f64) -> f64
     PI / 4.0 + v
 }
 
-fn lesser(a: f64, b: f64) -> f64
-    ensures { result ≡ cond (lt a b) a b }
+// The lesser of the two and the greater; of two that are level, the second first.
+fn in_order(a: f64, b: f64) -> (f64, f64)
+    ensures { result ≡ cond (lt a b) (a, b) (b, a) }
 {
     if a < b {
-        return a;
+        return (a, b);
     }
-    b
-}
-
-fn greater(a: f64, b: f64) -> f64
-    ensures { result ≡ cond (lt a b) b a }
-{
-    if a < b {
-        return b;
-    }
-    a
+    (b, a)
 }
 
 // The angle of the point (|x|, |y|): at most a quarter turn. The lesser over the greater needs no
@@ -174,13 +174,15 @@ fn quarter(y: f32, x: f32) -> f64
 {
     let a = ieee::widen(ieee::abs(y));
     let b = ieee::widen(ieee::abs(x));
-    let v = arctangent(lesser(a, b) / greater(a, b));
+    let (lesser, greater) = in_order(a, b);
+    let v = arctangent(lesser / greater);
     if a <= b {
         return v;
     }
     PI / 2.0 - v
 }
 
+#[tactic(auto, unfolding(crate::specs::Arctangent::mirrored_of))]
 fn mirrored(x: f64, v: f64) -> f64
     ensures { result ≡ mirrored_of x v }
 {
@@ -190,6 +192,7 @@ fn mirrored(x: f64, v: f64) -> f64
     v
 }
 
+#[tactic(auto, unfolding(crate::specs::Arctangent::signed_of))]
 fn signed(y: f64, v: f64) -> f64
     ensures { result ≡ signed_of y v }
 {
@@ -205,17 +208,12 @@ fn both_finite(y: f32, x: f32) -> bool
     ieee::is_finite(y) && ieee::is_finite(x)
 }
 
-fn both_zero(y: f32, x: f32) -> bool
-    ensures { result ≡ (eq y zero && eq x zero) }
-{
-    y == 0.0 && x == 0.0
-}
-
+#[tactic(auto, using(crate::proofs::Specials::nan32_is, crate::proofs::Specials::zero_is), unfolding(crate::specs::Arctangent::atan2_of, ieee::specs::Basic::widen_of))]
 pub fn atan2(y: f32, x: f32) -> f32
     ensures { result ≡ atan2_of y x }
 {
     if both_finite(y, x) {
-        if both_zero(y, x) {
+        if y == 0.0 && x == 0.0 {
             return 0.0;
         }
         let v = mirrored(ieee::widen(x), quarter(y, x));

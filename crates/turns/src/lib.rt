@@ -10,7 +10,6 @@ ghost use Rattle.trigonometry.specs.Sine.{pair_of, sin_cos_of, tan_of};
 use trigonometry::{Pair, SinCos};
 
 fn pairs_at<const N: usize>(t: [f32; N]) -> [Pair; N]
-    requires { N < 2 ^ 32 }
     ensures { result ≡ map (λ (x : Float). pair_of (widen_of x)) t.entry }
 {
     if lanes::all(t, trigonometry::in_range) {
@@ -20,8 +19,9 @@ fn pairs_at<const N: usize>(t: [f32; N]) -> [Pair; N]
     lanes::each(t, trigonometry::pair_at)
 }
 
+// N pairs of f64 fit in memory, which the types of t and the result do not say.
 pub fn sin_cos<const N: usize>(t: [f32; N]) -> [SinCos; N]
-    requires { N < 2 ^ 32 }
+    requires { N < 2 ^ 59 }
     ensures { result ≡ map sin_cos_of t.entry }
 {
     let p = pairs_at(t);
@@ -30,8 +30,9 @@ pub fn sin_cos<const N: usize>(t: [f32; N]) -> [SinCos; N]
     lanes::pairwise(sines, cosines, |sin, cos| SinCos { sin, cos })
 }
 
+// The bound on N is that of `sin_cos`.
 pub fn tan<const N: usize>(t: [f32; N]) -> [f32; N]
-    requires { N < 2 ^ 32 }
+    requires { N < 2 ^ 59 }
     ensures { result ≡ map tan_of t.entry }
 {
     lanes::narrow(lanes::each(pairs_at(t), |p| p.s / p.c))

@@ -5,8 +5,7 @@ use lib.Ieee.Compare.{differs_from_itself}
 use Rattle.series.specs.Horner.{horner_of}
 use Rattle.series.specs.Coefficients.{H, terms, factorial_reciprocal, reciprocal}
 use Rattle.exponential.specs.Exponential.{exp_of, floor_of}
-use Rattle.exponential.proofs.Specials.{nan64_is, inf64_is}
-use Rattle.exponential.proofs.Series.{exp_by}
+use Rattle.exponential.proofs.Specials.{nan64_is}
 use Rattle.exponential.proofs.exp.Goals as goal
 
 -- a NaN goes through every step
@@ -16,11 +15,3 @@ exp_nan = refl
 
 pub returns-then-t : goal.returns-then-t
 returns-then-t c = nan64_is ∙ sym (ap exp_of (differs_from_itself c.args.t (subst T (sym c.if-t.true) tt)) ∙ exp_nan)
-
-pub returns-then-t-2 : goal.returns-then-t-2
-unfolding exp_of
-returns-then-t-2 c = rw (inf64_is, c.if-t-2.true)
-
-pub returns-then-t-3 : goal.returns-then-t-3
-unfolding exp_of
-returns-then-t-3 c = rw (c.if-t-2.false, c.if-t-3.true)

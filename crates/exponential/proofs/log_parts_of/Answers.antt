@@ -1,9 +1,8 @@
-use Rattle.std.proofs.Common.{rules, sym, subst, ap, ◌∙◌}
+use Rattle.std.proofs.Common.{sym, subst}
 use lib.Dec.{T}
 use lib.Ieee.{Float, binary32, fits}
 use lib.Ieee.Positive.{positive}
 use Rattle.ieee.specs.Basic.{widen_of}
-use Rattle.exponential.specs.Logarithm.{ln_at, ln_of}
 use Rattle.exponential.proofs.log_parts_of.Goals as goal
 
 pub parts_of-p-requires : goal.parts_of-p-requires
@@ -12,7 +11,3 @@ parts_of-p-requires c =
     let s = c.before in
     let w = sym c.widen.ensures in
     record { is_single = subst (λ (x : Float). T (fits binary32 x)) w (subst T (sym s.well_formed.0.1) tt); is_positive = subst (λ (x : Float). T (positive x)) w s.requires }
-
-pub returns : goal.returns
-unfolding ln_at
-returns c = c.parts_of-p.ensures ∙ ap ln_of c.widen.ensures

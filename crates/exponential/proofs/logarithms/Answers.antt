@@ -1,7 +1,6 @@
 use Rattle.std.proofs.Common.{rules, refl, ◌∙◌}
 use lib.Ieee.{Float, binary64, mul}
 use lib.ListN.{take}
-use native.Mathlib.Omega.{arith}
 use Rattle.series.specs.Horner.{horner_of}
 use Rattle.series.specs.Coefficients.{terms, H, odd_reciprocal}
 use Rattle.lanes.proofs.Places.{map-of_map, zip2-of_map_right, map-along_AllZip}

@@ -1,6 +1,5 @@
 use Rattle.std.proofs.Common.{rules}
 use lib.Ieee.{Float, binary64, mul}
-use Rattle.ieee.specs.Basic.{widen_of}
 use Rattle.lanes.proofs.Places.{zip2-of_maps, map-of_zip2}
 use Rattle.exponential.specs.Power.{main_of}
 use Rattle.exponential.proofs.main_powers.Goals as goal

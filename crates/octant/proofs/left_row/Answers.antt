@@ -1,21 +1,13 @@
-use mathlib.Core.Path.{sym, ◌∙◌}
-use Prim.Native.Nat.{◌+◌}
-use native.Mathlib.Omega.{arith}
-use borrow.Author.Tests.{leb-true, leb-false}
-use lib.Ieee.{to_unsigned}
-use Rattle.octant.proofs.Rows.{le-whole}
+use Rattle.std.proofs.Common.{◌≡◌, ◌+◌, true, false, rules, tests, pos, ◌∙◌, ap}
+use Rattle.std.proofs.lemmas.Iterator.{first_from_Range}
+use Rattle.std.specs.Option.{unwrap_or}
+use lib.Ieee.{binary32, of_int, le}
+use Rattle.octant.proofs.Rows.{first_left}
 use Rattle.octant.proofs.left_row.Goals as goal
 
-pub loop-left-preserved : goal.loop-left-preserved
-loop-left-preserved c =
-    let k = c.loop-left.left + 1 in
-    let x = c.args.steps in
-    let h = leb-true k (to_unsigned 64 x) (sym (le-whole k x (omega arith) (omega arith)) ∙ c.if-steps-left.true) in
-    omega arith
-
-pub returns-in-loop-left : goal.returns-in-loop-left
-returns-in-loop-left c =
-    let k = c.loop-left.left + 1 in
-    let x = c.args.steps in
-    let h = leb-false k (to_unsigned 64 x) (sym (le-whole k x (omega arith) (omega arith)) ∙ c.if-steps-left.false) in
-    omega arith
+pub returns : goal.returns
+returns c =
+    c.unwrap_or.ensures
+    ∙ ap (unwrap_or c.find.result) c.from-end.ensures
+    ∙ first_left c.find.result c.args.steps c.args.last c.ranges.last.fits
+    (rw c.from-end.ensures at (first_from_Range _ _ _ c.find.result (λ i. le (of_int binary32 (pos (i + 1))) c.args.steps ≡ false) (λ k. le (of_int binary32 (pos (k + 1))) c.args.steps ≡ true) c.find.ensures.ran (λ x q k. search (rules, tests)) (λ x q k. (search rules, search (rules, tests)))))

@@ -5,7 +5,7 @@ use Rattle.geometry.specs.Point.{one}
 use Rattle.exponential.specs.Power.{pow_of}
 use Rattle.lanes.proofs.Places.{map-of_map, zip2-of_map_left}
 use Rattle.octant.specs.Binary32.{◌⊖◌, ◌⊗◌, ◌⊘◌}
-use Rattle.octant.specs.Stages.{fitted_of, first_power_of, height_of, slope_of, solve_of}
+use Rattle.octant.specs.Stages.{fitted_of, first_power_of, height_of, slope_of}
 use Rattle.octant.specs.declared.Fitted.{Fitted}
 use Rattle.octant.specs.declared.Meeting.{Meeting}
 use Rattle.octant.specs.declared.Solve.{Solve}

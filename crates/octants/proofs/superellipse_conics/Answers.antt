@@ -1,14 +1,14 @@
-use Rattle.std.proofs.Common.{◌≡◌, rules, map, refl, ◌∙◌}
+use Rattle.std.proofs.Common.{◌≡◌, rules, map, ◌∙◌}
 use Rattle.std.proofs.lemmas.Simd.{zip2_of_maps}
 use lib.Ieee.{Float, neg}
 use Rattle.geometry.specs.Point.{one}
 use Rattle.geometry.specs.declared.Point.{Point}
 use Rattle.exponential.specs.Power.{pow_of}
-use Rattle.lanes.proofs.Places.{map-of_map, zip2-of_map_right}
+use Rattle.lanes.proofs.Places.{map-of_map}
 use Rattle.octant.specs.Binary32.{◌⊖◌, ◌⊘◌}
 use Rattle.octant.specs.declared.Octant.{Octant}
 use Rattle.arcs.specs.Conics.{joined_of, superellipse_conics_of}
-use Rattle.octants.specs.Octants.{start_of, ratio_of, met_of, conics_of}
+use Rattle.octants.specs.Octants.{start_of, ratio_of, met_of}
 use Rattle.octants.specs.declared.Start.{Start}
 use Rattle.octants.specs.declared.Slopes.{Slopes}
 use Rattle.octants.specs.declared.End.{End}

@@ -21,7 +21,3 @@ returns-then-is_one_float c =
     ∙ moved_octant (top_offset_of f) (right_offset_of f) half.x f.radius
     ∙ ap (λ (x : Float). compute_octant_of (right_offset_of f) x f.radius) same in
     rw (c.joined.ensures, right, top)
-
-pub returns : goal.returns
-unfolding solved_of
-returns c = rw (c.joined-2.ensures, c.compute_octants.ensures, c.top_octant.ensures, c.right_octant.ensures)

@@ -1,26 +1,31 @@
--- The invariant at the loop's start, along a step and at its end, by Horner's scheme at each place.
-use Rattle.std.proofs.Common.{rules, ◌≡◌, suc, ◌-◌, length, sym, ◌∙◌}
+use Rattle.std.specs.List.{push}
+use Rattle.std.proofs.Common.{rules, length, ◌≡◌, ◌++◌, List, [], ◌∷◌, sym, ◌∙◌, append_assoc}
 use native.Mathlib.Omega.{arith}
-use lib.ListN.{get_or, drop}
-use lib.Ieee.{Float, nan, binary64, add, mul}
+use lib.Ieee.{Float, binary64, add, mul}
 use Rattle.lanes.proofs.Places.{replicate-map, zip2-over_map}
-use Rattle.series.specs.Horner.{horner_of}
-use Rattle.series.proofs.Horners.{horner_last, horner_down, horner_none}
+use Rattle.series.proofs.Horners.{horner_one, horner_more, horner_none}
 use Rattle.series.proofs.horner.Goals as goal
 
-pub returns-then-n-eq0 : goal.returns-then-n-eq0
-returns-then-n-eq0 g c = replicate-map _ _ (λ z. horner_none c.args.cs.now z (omega arith)) c.args.z g.row.N (omega arith)
+pub returns-in_default : goal.returns-in_default
+returns-in_default g c = replicate-map _ _ (λ z. horner_none c.args.cs.now z c.in_default.ensures.cases) c.args.z g.row.N (omega arith)
 
-pub loop-k-init : goal.loop-k-init
-loop-k-init g c =
-    let cs = c.args.cs.now in
-    (omega arith, replicate-map _ _ (λ z. sym (horner_last binary64 z cs (length cs - 1) nan (omega arith))) c.args.z g.row.N (omega arith))
+one_less : (r t cs : List Float) (c : Float) → cs ≡ push r c ++ t → cs ≡ r ++ (c ∷ t)
+one_less r t cs c e = e ∙ append_assoc r (c ∷ []) t
 
-pub loop-k-preserved : goal.loop-k-preserved
-loop-k-preserved g c =
-    let cs = c.args.cs.now in
-    let k = c.loop-k.k in
-    let e : suc (k - 1) ≡ k = omega arith in
-    let step : (z : Float) → add binary64 (mul binary64 (horner_of binary64 (drop k cs) z) z) (get_or cs (k - 1) nan) ≡ horner_of binary64 (drop (k - 1) cs) z =
-    λ z. sym (rw e at (horner_down binary64 z cs (k - 1) nan (omega arith))) in
-    (omega arith, c.pairwise-h.ensures (λ h z. add binary64 (mul binary64 h z) (get_or cs (k - 1) nan)) (λ a b r p. search rules) ∙ rw c.loop-k.invariant.1 (zip2-over_map _ _ _ step c.args.z))
+none_left : (r t cs : List Float) → length r ≡ 0 → cs ≡ r ++ t → t ≡ cs
+none_left [] t cs l e = sym e
+none_left (x ∷ r) t cs l e = absurd (omega arith)
+
+pub loop-c-init : goal.loop-c-init
+loop-c-init g c = (c.in-Some.field-0-0.now ∷ [], search rules, omega arith, replicate-map _ _ (horner_one binary64 c.in-Some.field-0-0.now) c.args.z g.row.N (omega arith))
+
+pub loop-c-preserved : goal.loop-c-preserved
+loop-c-preserved g c =
+    let i = c.loop-c.invariant in
+    let x = c.in-Some-2.field-0.now in
+    (x ∷ i.0, one_less _ i.0 _ x (rw c.in-Some-2.ensures.steps at i.1), omega arith, c.pairwise-h.ensures (λ h z. add binary64 (mul binary64 h z) x) (λ a b r p. search rules) ∙ rw i.3 (zip2-over_map _ _ _ (λ z. horner_more binary64 x z i.0 i.2) c.args.z))
+
+pub returns : goal.returns
+returns g c =
+    let i = c.loop-c.invariant in
+    i.3 ∙ rw (none_left _ i.0 c.args.cs.now c.in-None.ensures.steps.0 i.1)

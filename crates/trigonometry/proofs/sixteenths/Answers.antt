@@ -5,7 +5,6 @@ use Rattle.series.specs.Horner.{horner_of}
 use Rattle.series.specs.Coefficients.{H, terms}
 use Rattle.lanes.proofs.Places.{map-of_map}
 use Rattle.trigonometry.specs.Constants.{sixteen}
-use Rattle.trigonometry.specs.declared.Pair.{Pair}
 use Rattle.trigonometry.specs.Sine.{sine_term, cosine_term, sixteenth_of}
 use Rattle.trigonometry.proofs.sixteenths.Goals as goal
 

@@ -1,4 +1,4 @@
-use Rattle.std.proofs.Common.{◌≡◌, rules, map, ◌∙◌}
+use Rattle.std.proofs.Common.{rules, ◌∙◌}
 use Rattle.std.proofs.lemmas.Simd.{zip2_of_maps}
 use lib.Ieee.{Float}
 use Rattle.ieee.specs.Basic.{widen_of}

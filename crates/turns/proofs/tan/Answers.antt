@@ -1,4 +1,4 @@
-use Rattle.std.proofs.Common.{◌≡◌, rules, map}
+use Rattle.std.proofs.Common.{rules}
 use lib.Ieee.{Float, binary64, div}
 use Rattle.ieee.specs.Basic.{widen_of}
 use Rattle.ieee.specs.Narrow.{narrow_of}
