@@ -2,6 +2,7 @@
 use mathlib.Core.Path.{◌≡◌, refl, sym, ap, ◌∙◌}
 use mathlib.Core.Bool.{Bool, true, false, cond, not, ◌&&◌, ◌||◌, true≢false}
 use mathlib.Core.List.{List}
+use Rattle.std.proofs.Math.Bool.{and-false}
 use Prim.Native.Nat.{ℕ, zero, suc, ◌<◌}
 use native.Mathlib.Omega.{arith}
 use lib.Ieee.{lt, le}
@@ -26,10 +27,6 @@ by_circle false false true d e s h = absurd (true≢false (sym h))
 by_circle false false false true e s h = absurd (true≢false (sym h))
 by_circle false false false false true s h = absurd (true≢false (sym h))
 by_circle false false false false false s h = refl
-
-and-false : (a : Bool) → (a && false) ≡ false
-and-false true = refl
-and-false false = refl
 
 one_of_two : (t r a b : Bool) → (t ≡ true → a ≡ false) → (r ≡ true → b ≡ false) → (t || r) ≡ true → (a && b) ≡ false
 one_of_two true r a b f g h = ap (λ (x : Bool). x && b) (f refl)

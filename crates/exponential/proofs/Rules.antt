@@ -37,10 +37,6 @@ plus-zero : (e : ℤ) → eq (fin false 0 e) none ≡ true
 unfolding eq of_bits
 plus-zero e = rw (zero-mul (up e), zero-mul (down e))
 
-below-zero : lt (inf true) none ≡ true
-unfolding lt of_bits
-below-zero = refl
-
 pub above_zero : (b : Float) → ne b b ≡ false → lt b none ≡ false → eq b none ≡ false → infinite b ≡ false → T (positive b)
 unfolding infinite
 above_zero nan n l z i = absurd (true≢false (sym nan_differs ∙ n))

@@ -1,12 +1,12 @@
 -- The left row by comparisons: for a whole number k above 0, k ≤ x holds of a float exactly where k is at most x's whole part. Assumes nothing.
 use mathlib.Core.Path.{◌≡◌, refl, sym, ap, ◌∙◌, subst}
-use mathlib.Core.Logic.{◌⊎◌, inl, inr}
-use mathlib.Core.Bool.{Bool, true, false, not, ◌&&◌, ◌||◌, true≢false}
+use mathlib.Core.Logic.{inl, inr}
+use mathlib.Core.Bool.{Bool, true, false, ◌&&◌, ◌||◌, true≢false}
 use Prim.Native.Nat.{ℕ, zero, suc, ◌+◌, ◌-◌, ◌*◌, ◌/◌, ◌^◌, ◌≤◌, ◌<◌, min}
 use native.Mathlib.Nat.{mul-one, mul_right_comm, mul-pos, le-div_iff_mul-le, div-lt_iff_lt-mul, mul-le-mul_right, mul-lt-mul_of_pos_right}
 use native.Mathlib.Omega.{arith}
 use borrow.Author.Tests.{leb-true, leb-false, le-leb, lt-leb, lt-ltb, le-ltb, eq-eqb, ne_eqb}
-use lib.Dec.{T, leb, ltb, eqb, leb→le, nleb→lt, le→leb}
+use lib.Dec.{T, leb, ltb, eqb, le→leb}
 use lib.IntN.{pos}
 use lib.Ieee.{Float, nan, inf, fin, binary32, of_int, round, lt, le, eq, up, down, to_unsigned, in_float}
 use lib.Ieee.Fits.{down_pos}
@@ -14,6 +14,7 @@ use lib.Ieee.Exact.{HasValue}
 use lib.Ieee.Back.{round_whole}
 use Rattle.std.proofs.Common.{Option, Some, None}
 use Rattle.std.specs.Option.{MatchOption, unwrap_or}
+use Rattle.exponential.proofs.Integers.{below_or_on}
 use Rattle.octant.specs.Degree.{left_row_of}
 
 -- The left row is in range, for every float.
@@ -26,17 +27,10 @@ unfolding to_unsigned
 left_of-nan last = omega arith
 
 -- ---- comparisons of natural numbers, as Bools
-lt_or_le : (i n : ℕ) → (i < n) ⊎ (n ≤ i)
-lt_or_le i n = go (leb n i) (leb→le n i) (nleb→lt n i)
-  where
-    go : (b : Bool) → (T b → n ≤ i) → (T (not b) → i < n) → (i < n) ⊎ (n ≤ i)
-    go true h k = inr (h tt)
-    go false h k = inl (k tt)
-
 -- two tests that hold together are the same Bool
 leb_same : (a b c d : ℕ) → (b < a → d < c) → (a ≤ b → c ≤ d) → leb a b ≡ leb c d
 leb_same a b c d f t =
-    elim (lt_or_le b a) [
+    elim (below_or_on b a) [
       | inl h ↦ lt-leb a b h ∙ sym (lt-leb c d (f h))
       | inr h ↦ le-leb a b h ∙ sym (le-leb c d (t h))
     ]
@@ -44,9 +38,9 @@ leb_same a b c d f t =
 -- a ≤ b as `le` has it of two numbers that are not negative
 leb-is : (a b : ℕ) → (ltb a b || (eqb a b && true)) ≡ leb a b
 leb-is a b =
-    elim (lt_or_le b a) [
+    elim (below_or_on b a) [
       | inl h ↦ rw (le-ltb a b (omega arith), ne_eqb a b (λ e. omega arith), lt-leb a b h)
-      | inr h ↦ elim (lt_or_le a b) [
+      | inr h ↦ elim (below_or_on a b) [
         | inl g ↦ rw (lt-ltb a b g, le-leb a b h)
         | inr g ↦ rw (le-ltb a b g, eq-eqb a b (omega arith), le-leb a b h)
       ]

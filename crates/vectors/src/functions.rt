@@ -110,7 +110,7 @@ fn of_singles(name: &[u8], line: &[u8]) -> Option<Answer> {
 pub fn answer_to(name: &[u8], line: &[u8]) -> Option<Answer> {
     match name {
         b"narrow" => Some(Answer::Single(ieee::narrow(only_double(line)?))),
-        b"abs_f64" => Some(Answer::Double(only_double(line)?.abs())),
+        b"abs_f64" => Some(Answer::Double(ieee::abs_f64(only_double(line)?))),
         _ => of_singles(name, line),
     }
 }

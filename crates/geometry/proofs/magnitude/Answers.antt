@@ -7,6 +7,7 @@ use native.Mathlib.Omega.{arith}
 use lib.Dec.{T, ltb, lt→ltb}
 use lib.IntN.{ℤ}
 use lib.Ieee.{Float, nan, inf, fin, binary32, of_bits, neg, add, sub, sum, lt, fits, round, up, down}
+use lib.Ieee.Bits.{is_true}
 use lib.Ieee.Fits.{up_pos, down_pos, neg-fits}
 use Rattle.ieee.specs.Basic.{abs_of}
 use Rattle.rounding.proofs.Meets.{round_own}
@@ -15,10 +16,6 @@ use Rattle.geometry.proofs.magnitude.Goals.{Start}
 
 held : (c : Start) → T (fits binary32 c.args.x)
 held c = subst T (sym c.well_formed.0.1) tt
-
-is_true : (b : Bool) → T b → b ≡ true
-is_true true t = refl
-is_true false t = absurd t
 
 abbrev opposite : Float → Float
 opposite x = sub binary32 (of_bits binary32 0) x
