@@ -1,8 +1,8 @@
--- What the writers of `text` do, as one step of writing. Assumes nothing.
-use Rattle.std.proofs.Common.{◌≡◌, ℕ, List, ap₂}
-use Rattle.text.specs.Written.{Wrote}
+-- One step of writing. Assumes nothing.
+use Rattle.std.proofs.Common.{◌≡◌, ℕ, List, refl}
+use Rattle.text.specs.Written.{put_text, past_text}
 use Rattle.replies.specs.Placed.{written, ◌▸◌}
 
-pub wrote : {l : List ℕ} {at : ℕ} {t : List ℕ} {r : ℕ} {l' : List ℕ} → Wrote l at t r l' → written r l' ≡ written at l ▸ t
+pub one_text_more : (at : ℕ) (l t : List ℕ) → written at l ▸ t ≡ written (past_text l at t) (put_text l at t)
 unfolding ◌▸◌
-wrote w = ap₂ written w.past w.held
+one_text_more at l t = refl

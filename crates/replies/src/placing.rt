@@ -9,24 +9,28 @@ use geometry::Point;
 use reader::{Cursor, Rect, Segment};
 use stream::Builder;
 
+#[tactic(auto, using(crate::proofs::Writing::one_text_more))]
 fn word(out: &mut [u8], at: usize, text: &[u8]) -> usize
     ensures { written result out.new ≡ written at out.old ▸ text.now }
 {
     text::put(out, at, text)
 }
 
+#[tactic(auto, using(crate::proofs::Writing::one_text_more))]
 fn decimal(out: &mut [u8], at: usize, n: u64) -> usize
     ensures { written result out.new ≡ written at out.old ▸ decimal_text n }
 {
     text::put_decimal(out, at, n)
 }
 
+#[tactic(auto, using(crate::proofs::Writing::one_text_more))]
 fn hexadecimal(out: &mut [u8], at: usize, n: u64) -> usize
     ensures { written result out.new ≡ written at out.old ▸ hexadecimal_text n }
 {
     text::put_hexadecimal(out, at, n)
 }
 
+#[tactic(auto, using(crate::proofs::Writing::one_text_more))]
 fn single(out: &mut [u8], at: usize, x: f32) -> usize
     ensures { written result out.new ≡ written at out.old ▸ single_text x }
 {
