@@ -122,6 +122,7 @@ pub trait Lines {
 }
 
 // The text of a line, if there is one, from index `at` on; the answer is the index past it.
+#[tactic(auto, using(crate::proofs::Listing::text_of_some, crate::proofs::Listing::text_of_none, crate::proofs::Listing::over_none))]
 fn put_any(line: Option<Line>, out: &mut [u8; 393288], at: usize) -> usize
     requires { at + 72 ≤ 393288 }
     ensures upper_bound { result ≤ at + 72 }
