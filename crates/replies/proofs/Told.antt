@@ -4,7 +4,6 @@ use borrow.Author.Tests.{le-leb}
 use lib.ListN.{length-append, length-drop}
 use lib.Seq.{take_at, drop_at, drop-drop}
 use Rattle.geometry.specs.declared.Point.{Point}
-use Rattle.reader.specs.declared.Segment.{Segment}
 use Rattle.reader.specs.declared.Segment.TheVariants as segment
 use Rattle.text.specs.Written.{put_text, past_text, decimal_text, hexadecimal_text, single_text}
 use Rattle.text.proofs.Decimals.{decimal_is_text}

@@ -7,9 +7,8 @@ mod placing;
 ghost use Rattle.std.specs.Prelude.{Some};
 ghost use Rattle.replies.specs.Replies.{counts_text, point_text, segment_text, reply_text};
 
-pub use placing::put;
-
 use geometry::Point;
+pub use placing::put;
 use reader::{Cursor, Rect, Segment};
 use std::fmt;
 use stream::Builder;

@@ -1,5 +1,5 @@
 -- `record_at` meets its contract.
-use Rattle.std.proofs.Common.{arith, rules, ap, Ok}
+use Rattle.std.proofs.Common.{arith, ap, Ok}
 use Rattle.panel_file.specs.Panel.{payload_of, read_of, record_at, entry_of, content_at}
 use Rattle.panel_file.proofs.Following.{Inside, head_within}
 use Rattle.panel_file.proofs.record_at.Goals as goal

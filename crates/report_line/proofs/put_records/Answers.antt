@@ -1,9 +1,9 @@
 -- `report_line::put_records` meets its contract.
-use Rattle.std.proofs.Common.{◌≡◌, List, ℕ, ◌++◌, length, take, append_assoc, refl, sym, ap, ap₂, ◌∙◌, arith}
+use Rattle.std.proofs.Common.{List, ℕ, ◌++◌, length, take, append_assoc, sym, ap, ◌∙◌, arith}
 use Rattle.panel_file.specs.declared.Record.{Record}
 use Rattle.panel_file.specs.Panel.{kind_of_record, counted_of}
-use Rattle.panel_file.specs.File.{records, records_left}
-use Rattle.panel_file.proofs.Counting.{counts as counts_by, one_more}
+use Rattle.panel_file.specs.File.{records_left}
+use Rattle.panel_file.proofs.Counting.{one_more}
 use Rattle.report_line.specs.Text.{text_of}
 use Rattle.report_line.specs.Records.{lines_by}
 use Rattle.report_line.proofs.Writing.{over_rest}
