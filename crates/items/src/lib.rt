@@ -42,7 +42,7 @@ impl fmt::Display for BadLine {
 impl error::Error for BadLine {}
 
 // The first two words as numbers, and what follows them.
-#[tactic(auto, unfolding(crate::specs::Items::counts_of, crate::specs::Items::pair_of))]
+#[tactic(auto, using(text::proofs::Spelling::no_number), unfolding(crate::specs::Items::counts_of, crate::specs::Items::pair_of))]
 fn counts(line: &[u8]) -> Option<(usize, usize)>
     ensures { result ≡ counts_of line.now }
 {

@@ -123,3 +123,22 @@ pub fn for_each<R: Read, F: FnMut(Result<&[u8], TooLong>) -> io::Result<bool>>(
     }
     Ok(())
 }
+
+// Each line of an input to `answer`, and `bad` written for a line of more than 1,024 bytes.
+pub fn answer_each<R: Read, F: Fn(&[u8]) -> io::Result<()>>(
+    rt: &impl Print,
+    input: &mut R,
+    answer: F,
+) -> io::Result<()>
+    requires { F.IsAlwaysCallable answer }
+{
+    let mut piece = [0u8; 65536];
+    let mut line = [0u8; 1024];
+    for_each(input, &mut piece, &mut line, |taken| {
+        match taken {
+            Ok(line) => answer(line)?,
+            Err(TooLong) => rt.println("bad")?,
+        }
+        Ok(true)
+    })
+}

@@ -145,12 +145,11 @@ fn u16_at(file: &[u8], at: usize) -> u16
     u16::from_le_bytes([file[at], file[at + 1]])
 }
 
-#[tactic(auto, unfolding(crate::specs::Bytes::u32_at))]
 fn u32_at(file: &[u8], at: usize) -> u32
     requires { at + 4 ≤ length file.now }
     ensures { result ≡ u32_at file.now at }
 {
-    u32::from(u16_at(file, at)) + 65536 * u32::from(u16_at(file, at + 2))
+    u32::from_le_bytes([file[at], file[at + 1], file[at + 2], file[at + 3]])
 }
 
 // Bit for bit; every NaN pattern is a NaN.

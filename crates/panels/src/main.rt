@@ -3,10 +3,7 @@
 
 #![tactic(auto)]
 
-ghost use Rattle.io.specs.Counts.{IsPrefixLen};
-
 use std::io;
-use std::io::Read;
 
 // Some bytes behind others, which has to have room: how many there are then.
 fn put_bytes(line: &mut [u8], at: usize, bytes: &[u8]) -> Option<usize> {
@@ -91,25 +88,10 @@ fn take_lines(rt: &impl Print, file: &mut [u8], lines: &[u8]) -> io::Result<()> 
     Ok(())
 }
 
-// Reads until buf is full, the input ends or a read fails, and returns how many bytes it put at the
-// start of buf. Stays a loop over `read`: the library's `read_to_end` fills a Vec, and no lent buffer.
-fn read_full<R: Read>(input: &mut R, buf: &mut [u8]) -> usize
-    ensures { IsPrefixLen result buf.new }
-{
-    let mut done = 0;
-    while done < buf.len() {
-        let n = input.read(&mut buf[done..]).unwrap_or(0);
-        if n == 0 {
-            break;
-        }
-        done += n;
-    }
-    done
-}
-
 fn main(rt: HostRuntime) -> io::Result<()> {
     let mut lines = [0u8; 131072];
-    let n = read_full(&mut rt.stdin(), &mut lines);
+    // What a read that fails leaves unread is no line.
+    let (n, _) = input::fill(&mut rt.stdin(), &mut lines);
     let mut file = [0u8; 131072];
     take_lines(&rt, &mut file, &lines[..n])
 }

@@ -2,10 +2,13 @@
 
 #![tactic(auto)]
 
+mod placing;
+
 ghost use Rattle.std.specs.Prelude.{Some};
 ghost use Rattle.replies.specs.Replies.{counts_text, point_text, segment_text, reply_text};
 
 use geometry::Point;
+pub use placing::put;
 use reader::{Cursor, Rect, Segment};
 use std::fmt;
 use stream::Builder;
@@ -26,7 +29,8 @@ pub enum Reply {
     Worded(Builder, u64),
     Yes,
     No,
-    // A refusal's number, the verb of a refusal 6, and the number of a bad line.
+    // A refusal's number, the verb of a refusal 6, and the number of a bad line. A refusal stays a number, as the
+    // line tells it: the errors of calls, reader and shape, which this crate need not know, each give theirs.
     Refused(u64),
     Malformed(u64),
     BadLine(u64),

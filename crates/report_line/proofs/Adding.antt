@@ -80,3 +80,12 @@ decimal_below m n h l = rw (digits_length 10 (places 19 1 n) n) (places-below 19
 pub numbered-past : (l : List ℕ) (at n : ℕ) (t : List ℕ) (r : ℕ) (l' : List ℕ) → Added l at (numbered n t) r l' → r ≤ at + 20 + length t
 unfolding numbered
 numbered-past l at n t r l' a = let d = decimal_most n in let g = length-append (decimal_text n) t in omega (arith, a.past)
+
+-- the same behind a name
+pub named-past : (l name : List ℕ) (n : ℕ) (t : List ℕ) (r : ℕ) (l' : List ℕ) → Added l 0 (name ++ numbered n t) r l' → r ≤ length name + 20 + length t
+unfolding numbered
+named-past l name n t r l' a =
+    let d = decimal_most n in
+    let g = length-append (decimal_text n) t in
+    let h = length-append name (decimal_text n ++ t) in
+    omega (arith, a.past)

@@ -26,17 +26,17 @@ unfolding lines_by
 next_lines line c r rs = lines_then (line c r) (lines_by line (counted_of c (kind_of_record r)) rs)
 
 -- no text over l
-over_none : (l : List ℕ) (at : ℕ) → Over l at [] at l
+pub over_none : (l : List ℕ) (at : ℕ) → Over l at [] at l
 over_none l at = record { past = sym (add-zero at); front = sym (append-nil (take at l)); rest = refl }
 
-module _ (l : List ℕ) (at : ℕ) (o : Option Line) where
-  pub over_some : (line : Line) (r : ℕ) (l' : List ℕ) → o ≡ Some line → Over l at (line_of line) r l' → Over l at (text_of (lines_at o)) r l'
-  unfolding lines_at
-  over_some line r l' e w = rw (e, one_line line) w
+-- the text of one line, and of none
+pub text_of_some : (line : Line) → text_of (lines_at (Some line)) ≡ line_of line
+unfolding lines_at
+text_of_some line = one_line line
 
-  pub over_no : o ≡ None → Over l at (text_of (lines_at o)) at l
-  unfolding lines_at text_of
-  over_no e = rw e (over_none l at)
+pub text_of_none : text_of (lines_at None) ≡ []
+unfolding lines_at text_of
+text_of_none = refl
 
 -- where no records are left, no lines are
 pub none_left : (line : Counts → Record → Option Line) (t : List ℕ) (c : Counts) (rs : List Record) → rs ≡ [] → t ++ text_of (lines_by line c rs) ≡ t

@@ -45,7 +45,7 @@ abbrev blank : List ℕ
 blank = 32 ∷ []
 
 -- the end of a line
-abbrev newline : List ℕ
+abbrev pub newline : List ℕ
 newline = 10 ∷ []
 
 -- a number in decimal digits, without zeros in front, and a text

@@ -9,7 +9,7 @@ ghost use Rattle.panel_file.specs.declared.Record.{Record};
 ghost use Rattle.panel_file.specs.File.{records};
 ghost use Rattle.text.specs.Written.{decimal_text};
 ghost use Rattle.report_line.specs.declared.Line.{Line};
-ghost use Rattle.report_line.specs.Line.{Added, shape_text, numbered, line_of};
+ghost use Rattle.report_line.specs.Line.{Added, newline, numbered, line_of};
 ghost use Rattle.report_line.specs.Text.{text_of, Over};
 ghost use Rattle.report_line.specs.Records.{none_before, lines_at, lines_by};
 
@@ -56,60 +56,48 @@ fn number(out: &mut [u8; 72], at: usize, n: usize, text: &[u8]) -> usize
     text::put(out, next, text)
 }
 
+// A name, a number and the text behind it.
+fn one_number(out: &mut [u8; 72], name: &[u8], n: usize, text: &[u8]) -> usize
+    requires { length name.now + 20 + length text.now ≤ 72 }
+    ensures { Added out.old 0 (name.now ++ numbered n text.now) result out.new }
+{
+    let a = word(out, 0, name);
+    number(out, a, n, text)
+}
+
+// The same with a second number, at the end of the line.
+fn two_numbers(out: &mut [u8; 72], name: &[u8], n: usize, text: &[u8], m: usize) -> usize
+    requires { length name.now + 20 + length text.now + 21 ≤ 72 }
+    ensures { Added out.old 0 (name.now ++ numbered n text.now ++ numbered m newline) result out.new }
+{
+    let a = one_number(out, name, n, text);
+    number(out, a, m, b"\n")
+}
+
 fn shape_line(out: &mut [u8; 72], index: usize, verbs: usize, points: usize) -> usize
     ensures { Added out.old 0 (line_of (Line.Shape index verbs points)) result out.new }
 {
-    let a = word(out, 0, b"shape ");
-    let b = number(out, a, index, b" ");
+    let b = one_number(out, b"shape ", index, b" ");
     let c = number(out, b, verbs, b" ");
     number(out, c, points, b"\n")
 }
 
-fn refused_line(out: &mut [u8; 72], index: usize, cause: usize) -> usize
-    ensures { Added out.old 0 (line_of (Line.Refused index cause)) result out.new }
-{
-    let a = word(out, 0, b"shape ");
-    let b = number(out, a, index, b" refused ");
-    number(out, b, cause, b"\n")
-}
-
-fn verdict_line(out: &mut [u8; 72], index: usize, verdict: &[u8]) -> usize
-    requires { length verdict.now ≤ 46 }
-    ensures { Added out.old 0 (shape_text ++ numbered index verdict.now) result out.new }
-{
-    let a = word(out, 0, b"shape ");
-    number(out, a, index, verdict)
-}
-
-fn touch_line(out: &mut [u8; 72], index: usize) -> usize
-    ensures { Added out.old 0 (line_of (Line.Touch index)) result out.new }
-{
-    let a = word(out, 0, b"touch ");
-    number(out, a, index, b"\n")
-}
-
-fn broken_line(out: &mut [u8; 72], cause: usize, offset: usize) -> usize
-    ensures { Added out.old 0 (line_of (Line.Broken cause offset)) result out.new }
-{
-    let a = word(out, 0, b"refused ");
-    let b = number(out, a, cause, b" at ");
-    number(out, b, offset, b"\n")
-}
-
-// The line's text, at the start of out; the answer is its length.
+// The line's text, at the start of out; the answer is its length. Tried as a `Display`: its clause speaks where
+// `fmt` answers Ok, and nothing says that it does, so that a text made by it is known as the line or as cut.
+#[tactic(auto, unfolding(crate::specs::Line::line_of))]
 pub fn text_of(line: Line, out: &mut [u8; 72]) -> usize
     ensures prefix_len { IsPrefixLen result out.new }
     ensures out_after { take result out.new ≡ line_of line }
 {
     match line {
         Line::Shape(index, verbs, points) => shape_line(out, index, verbs, points),
-        Line::Refused(index, cause) => refused_line(out, index, cause),
-        Line::Touch(index) => touch_line(out, index),
+        Line::Refused(index, cause) => two_numbers(out, b"shape ", index, b" refused ", cause),
+        Line::Touch(index) => one_number(out, b"touch ", index, b"\n"),
         Line::Nowhere => word(out, 0, b"touch none\n"),
         Line::End => word(out, 0, b"end\n"),
-        Line::Consistent(index) => verdict_line(out, index, b" ok\n"),
-        Line::Apart(index) => verdict_line(out, index, b" parts company\n"),
-        Line::Broken(cause, offset) => broken_line(out, cause, offset),
+        Line::Consistent(index) => one_number(out, b"shape ", index, b" ok\n"),
+        Line::Apart(index) => one_number(out, b"shape ", index, b" parts company\n"),
+        Line::Broken(cause, offset) => two_numbers(out, b"refused ", cause, b" at ", offset),
     }
 }
 
@@ -135,6 +123,7 @@ pub trait Lines {
 }
 
 // The text of a line, if there is one, from index `at` on; the answer is the index past it.
+#[tactic(auto, using(crate::proofs::Listing::text_of_some, crate::proofs::Listing::text_of_none, crate::proofs::Listing::over_none))]
 fn put_any(line: Option<Line>, out: &mut [u8; 393288], at: usize) -> usize
     requires { at + 72 ≤ 393288 }
     ensures upper_bound { result ≤ at + 72 }

@@ -9,7 +9,6 @@
 mod fields;
 
 use fields::Fields;
-use lines::TooLong;
 use shape::{RoundSuperellipse, ShapeError};
 use std::io;
 
@@ -38,18 +37,6 @@ fn answer(rt: &impl Print, line: &[u8]) -> io::Result<()> {
     }
 }
 
-fn finish(rt: &impl Print, line: Result<&[u8], TooLong>) -> io::Result<()> {
-    match line {
-        Ok(line) => answer(rt, line),
-        Err(_) => rt.println("bad"),
-    }
-}
-
 fn main(rt: HostRuntime) -> io::Result<()> {
-    let mut piece = [0u8; 65536];
-    let mut line = [0u8; 1024];
-    lines::for_each(&mut rt.stdin(), &mut piece, &mut line, |taken| {
-        finish(&rt, taken)?;
-        Ok(true)
-    })
+    lines::answer_each(&rt, &mut rt.stdin(), |line| answer(&rt, line))
 }

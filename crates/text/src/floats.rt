@@ -5,10 +5,11 @@ ghost use Rattle.std.specs.Float.Ieee.{of_bits};
 ghost use Rattle.std.specs.Fmt.{WritesOnOk};
 ghost use Rattle.io.specs.Digits.{last_digits};
 ghost use Rattle.text.specs.Numbers.{float_of};
-ghost use Rattle.text.specs.Written.{hexadecimal_text, bits_of, float_text};
-ghost use Rattle.std.proofs.Common.{rules};
+ghost use Rattle.text.specs.Written.{Wrote, hexadecimal_text, bits_of, float_text};
+ghost use Rattle.std.proofs.Common.{lit≤};
 
 use crate::numbers::read_number;
+use crate::output::put;
 use std::num::{f32_from_bits_with_nan, f64_from_bits_with_nan};
 use std::{fmt, str};
 
@@ -47,7 +48,7 @@ impl FloatWord for f32 {
 
     ghost bits_of = { bits_of binary32 };
 
-    ghost fits_64 = { Prim.search rules };
+    ghost fits_64 = { (lit≤ tt, lit≤ tt) };
 
     const DIGITS: usize = 8;
 
@@ -77,7 +78,7 @@ impl FloatWord for f64 {
 
     ghost bits_of = { bits_of binary64 };
 
-    ghost fits_64 = { Prim.search rules };
+    ghost fits_64 = { (lit≤ tt, lit≤ tt) };
 
     const DIGITS: usize = 16;
 
@@ -113,7 +114,18 @@ pub fn read_float<F: FloatWord>(s: &[u8]) -> Option<F>
     Some(F::from_bits(bits))
 }
 
-// The last digits of a number, so many, which are all of them.
+// The last digits of a number, so many, which are all of them, at the start of a lent buffer.
+fn digits_in(buffer: &mut [u8; 16], n: u64, digits: usize) -> &[u8]
+    requires all { n < 16 ^ digits }
+    requires lower_bound { 1 ≤ digits }
+    requires upper_bound { digits ≤ 16 }
+    ensures { result.now ≡ last_digits 16 digits n }
+{
+    let len = io::hex(n, digits, buffer);
+    &buffer[..len]
+}
+
+// The same digits to a formatter.
 fn write_digits<W: fmt::Write>(f: &mut fmt::Formatter<W>, n: u64, digits: usize) -> fmt::Result
     requires all { n < 16 ^ digits }
     requires lower_bound { 1 ≤ digits }
@@ -121,11 +133,30 @@ fn write_digits<W: fmt::Write>(f: &mut fmt::Formatter<W>, n: u64, digits: usize)
     ensures { WritesOnOk W.Write.write_str_gives f.old result (last_digits 16 digits n) f.new }
 {
     let mut buffer = [0u8; 16];
-    let len = io::hex(n, digits, &mut buffer);
-    let Ok(text) = str::from_utf8(&buffer[..len]) else {
+    let Ok(text) = str::from_utf8(digits_in(&mut buffer, n, digits)) else {
         return Err(fmt::Error);
     };
     f.write_str(text)
+}
+
+// All 16 digits of a number, written as `put` writes.
+#[tactic(auto, unfolding(crate::specs::Written::hexadecimal_text))]
+pub fn put_hexadecimal(out: &mut [u8], at: usize, n: u64) -> usize
+    ensures { Wrote out.old at (hexadecimal_text n) result out.new }
+{
+    put(out, at, digits_in(&mut [0u8; 16], n, 16))
+}
+
+// A float as a word, written as `put` writes. Of an f32 the text is `single_text`, of an f64
+// `double_text`, which are these words.
+#[tactic(auto, unfolding(crate::specs::Written::float_text))]
+pub fn put_float<F: FloatWord>(out: &mut [u8], at: usize, x: F) -> usize
+    ensures { Wrote out.old at (float_text F.DIGITS F.bits_of x) result out.new }
+{
+    match x.bits() {
+        Some(bits) => put(out, at, digits_in(&mut [0u8; 16], bits, F::DIGITS)),
+        None => put(out, at, b"nan"),
+    }
 }
 
 // All 16 digits of a number.

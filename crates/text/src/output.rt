@@ -1,6 +1,7 @@
 // Texts and numbers written into a lent buffer. A writer takes the index to write at and gives the
 // index past its text; where there is no room for all of it, nothing is written and the index is the
-// same.
+// same. It stays an index and no Option: who writes one text behind another goes on at it, so that
+// reports, replies and copies would each turn a None back into the index that they had.
 ghost use Rattle.std.specs.Prelude.{◌≡◌, ◌+◌, ◌≤◌, length};
 ghost use Rattle.std.proofs.Math.Seq.{paste};
 ghost use Rattle.text.specs.Written.{Wrote, decimal_text};

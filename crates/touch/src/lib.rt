@@ -83,13 +83,13 @@ fn mark(shape: RoundSuperellipse, index: u32, points: &[f32], results: &mut [u32
     let arcs = containment::all_arcs(shape);
     let same = shape.all_corners_same;
     let first = arcs[0];
-    for i in 0..results.len() {
+    for (i, found) in results.iter_mut().enumerate() {
         let p = Point {
             x: points[2 * i],
             y: points[2 * i + 1],
         };
         let near = arcs[nearest(same, first.offset, p)];
-        results[i] = settled(results[i], index, shape, near, p);
+        *found = settled(*found, index, shape, near, p);
     }
 }
 

@@ -7,13 +7,9 @@
 
 mod functions;
 
-use lines::TooLong;
 use std::io;
 
-fn finish(rt: &impl Print, line: Result<&[u8], TooLong>) -> io::Result<()> {
-    let Ok(line) = line else {
-        return rt.println("bad");
-    };
+fn answer(rt: &impl Print, line: &[u8]) -> io::Result<()> {
     let Some((name, rest)) = text::split_word(line) else {
         return Ok(());
     };
@@ -24,10 +20,5 @@ fn finish(rt: &impl Print, line: Result<&[u8], TooLong>) -> io::Result<()> {
 }
 
 fn main(rt: HostRuntime) -> io::Result<()> {
-    let mut piece = [0u8; 65536];
-    let mut line = [0u8; 1024];
-    lines::for_each(&mut rt.stdin(), &mut piece, &mut line, |taken| {
-        finish(&rt, taken)?;
-        Ok(true)
-    })
+    lines::answer_each(&rt, &mut rt.stdin(), |line| answer(&rt, line))
 }

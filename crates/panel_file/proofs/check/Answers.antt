@@ -20,9 +20,6 @@ loop-kind-init c =
 pub with-counts-requires : goal.with-counts-requires
 with-counts-requires c = omega (arith, within c)
 
-pub overflow_add-at : goal.overflow_add-at
-overflow_add-at c = omega (arith, within (goal.at.overflow_add-at c).In-Some)
-
 pub overflow_add-at-in-Some : goal.overflow_add-at-in-Some
 overflow_add-at-in-Some c = omega (arith, within (goal.at.overflow_add-at-in-Some c).In-Some, c.payload.ensures)
 

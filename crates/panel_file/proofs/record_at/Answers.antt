@@ -1,5 +1,5 @@
 -- `record_at` meets its contract.
-use Rattle.std.proofs.Common.{arith, rules, ap, Ok}
+use Rattle.std.proofs.Common.{arith, ap, Ok}
 use Rattle.panel_file.specs.Panel.{payload_of, read_of, record_at, entry_of, content_at}
 use Rattle.panel_file.proofs.Following.{Inside, head_within}
 use Rattle.panel_file.proofs.record_at.Goals as goal
@@ -8,14 +8,6 @@ use Rattle.panel_file.proofs.record_at.Goals.{In-Some}
 -- the record lies within the file
 within : (c : In-Some) → Inside c.args.file.now c.args.at c.in-Some.kind
 within c = head_within _ _ _ _ c.in_ok-kind.ensures (ap Ok c.in-Some.is)
-
-pub returns-in_err-kind : goal.returns-in_err-kind
-unfolding read_of record_at entry_of
-returns-in_err-kind c = let e = c.in_err-kind.ensures in rw (← e) (search rules)
-
-pub returns-in_default : goal.returns-in_default
-unfolding read_of record_at entry_of
-returns-in_default c = rw (← c.head_at.ensures, c.in_ok-kind.was, c.in_default.is)
 
 pub overflow_add-from : goal.overflow_add-from
 overflow_add-from c = omega (arith, within c)

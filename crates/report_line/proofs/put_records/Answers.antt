@@ -1,38 +1,21 @@
 -- `report_line::put_records` meets its contract.
-use Rattle.std.proofs.Common.{◌≡◌, List, ℕ, ◌++◌, length, take, append_assoc, refl, sym, ap, ap₂, ◌∙◌, arith}
+use Rattle.std.proofs.Common.{List, ℕ, ◌++◌, length, take, append_assoc, sym, ap, ◌∙◌, arith}
 use Rattle.panel_file.specs.declared.Record.{Record}
 use Rattle.panel_file.specs.Panel.{kind_of_record, counted_of}
-use Rattle.panel_file.specs.File.{records, records_left}
-use Rattle.panel_file.proofs.Counting.{counts as counts_by, one_more}
+use Rattle.panel_file.specs.File.{records_left}
+use Rattle.panel_file.proofs.Counting.{one_more}
 use Rattle.report_line.specs.Text.{text_of}
 use Rattle.report_line.specs.Records.{lines_by}
 use Rattle.report_line.proofs.Writing.{over_rest}
 use Rattle.report_line.proofs.Listing.{next_lines, over_counts, over_whole, none_left}
 use Rattle.report_line.proofs.put_records.Goals as goal
 
-pub loop-record-init : goal.loop-record-init
-loop-record-init g c =
-    let e = c.default-counts.ensures in
-    let none = ap₂ counts_by e.0 e.1 in
-    let all = c.records-record-items.ensures in
-    let it : records_left c.into_iter-record-iterator.result ≡ records c.args.file.now = cc in
-    rw (none, it) (omega (arith, all.most), omega (arith, all.most), refl, refl, (omega arith, refl))
-
-pub returns : goal.returns
-returns g c =
+pub returns-clause-over : goal.returns-clause-over
+returns-clause-over g c =
     let loop = c.loop-record in
     let line = g.L.Lines.line c.args.lines.now in
     let whole = loop.invariant.2 ∙ none_left line (take loop.n loop.out) loop.counts _ c.in-None.ensures.steps.0 in
-    record { upper_bound = (omega (arith, loop.invariant), loop.invariant.4); over = over_whole _ loop.out loop.n _ loop.invariant.3 whole loop.invariant.4 }
-
-pub line-requires : goal.line-requires
-line-requires g c = omega (arith, ap length c.in-Some.ensures.steps)
-
-pub put_any-n-requires : goal.put_any-n-requires
-put_any-n-requires g c = omega (arith, ap length c.in-Some.ensures.steps)
-
-pub with-counts-requires : goal.with-counts-requires
-with-counts-requires g c = omega (arith, ap length c.in-Some.ensures.steps)
+    over_whole _ loop.out loop.n _ loop.invariant.3 whole loop.invariant.4
 
 pub loop-record-preserved : goal.loop-record-preserved
 loop-record-preserved g c =

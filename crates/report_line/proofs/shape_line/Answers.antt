@@ -1,15 +1,15 @@
 -- `report_line::shape_line` meets its contract. Assumes nothing.
-use native.Mathlib.Omega.{arith}
-use Rattle.report_line.specs.Line.{line_of}
-use Rattle.report_line.proofs.Adding.{added-two, numbered-past}
+use Rattle.std.proofs.Common.{arith, [], ◌∷◌}
+use Rattle.report_line.specs.Line.{line_of, shape_text}
+use Rattle.report_line.proofs.Adding.{added-two, numbered-past, named-past}
 use Rattle.report_line.proofs.shape_line.Goals as goal
 
 pub number-c-requires : goal.number-c-requires
-number-c-requires c = omega (arith, c.word-a.ensures.past, numbered-past _ _ _ _ _ _ c.number-b.ensures)
+number-c-requires c = omega (arith, named-past _ shape_text _ (32 ∷ []) _ _ c.one_number-b.ensures)
 
 pub number-requires : goal.number-requires
-number-requires c = omega (arith, c.word-a.ensures.past, numbered-past _ _ _ _ _ _ c.number-b.ensures, numbered-past _ _ _ _ _ _ c.number-c.ensures)
+number-requires c = omega (arith, named-past _ shape_text _ (32 ∷ []) _ _ c.one_number-b.ensures, numbered-past _ _ _ _ _ _ c.number-c.ensures)
 
 pub returns : goal.returns
 unfolding line_of
-returns c = added-two _ _ _ _ _ _ _ _ (added-two _ _ _ _ _ _ _ _ (added-two _ _ _ _ _ _ _ _ c.word-a.ensures c.number-b.ensures) c.number-c.ensures) c.number.ensures
+returns c = added-two _ _ _ _ _ _ _ _ (added-two _ _ _ _ _ _ _ _ c.one_number-b.ensures c.number-c.ensures) c.number.ensures

@@ -1,5 +1,5 @@
 -- `text::floats::read_float` meets its contract. Assumes nothing.
-use Rattle.std.proofs.Common.{rules, ◌≡◌, ◌<◌, ◌^◌, Some, sym, length}
+use Rattle.std.proofs.Common.{rules, ◌≡◌, Some, sym, length}
 use Rattle.text.specs.Numbers.{float_of, number_of}
 use Rattle.text.proofs.Spelling.{digits-below}
 use Rattle.text.proofs.floats.read_float.Goals as goal
