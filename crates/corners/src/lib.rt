@@ -45,25 +45,20 @@ pub struct CubicArc {
     pub to: Point,
 }
 
-// An octant that is drawn forwards, from the flat side on, and one that is drawn backwards.
+// What is drawn of an octant: forwards, from the flat side on, the conics and then the cubic; backwards the cubic, then the
+// second conic and the first.
 #[derive(Clone, Copy)]
-pub struct Forwards {
+pub struct OctantArcs {
     pub first: ConicArc,
     pub second: ConicArc,
     pub circle: CubicArc,
 }
 
-#[derive(Clone, Copy)]
-pub struct Backwards {
-    pub circle: CubicArc,
-    pub second: ConicArc,
-    pub first: ConicArc,
-}
-
+// Two octants, one drawn forwards and then one drawn backwards.
 #[derive(Clone, Copy)]
 pub struct RoundCorner {
-    pub forwards: Forwards,
-    pub backwards: Backwards,
+    pub forwards: OctantArcs,
+    pub backwards: OctantArcs,
 }
 
 #[derive(Clone, Copy)]
@@ -136,27 +131,27 @@ fn cubic_arc(place: Placement, c0: Point, c1: Point, to: Point) -> CubicArc
     }
 }
 
-fn place_forwards(place: Placement, curves: Curves) -> Forwards
+fn place_forwards(place: Placement, curves: Curves) -> OctantArcs
     ensures { calls_forwards result ≡ forwards_calls place curves }
 {
     let circle = curves.circle;
     let se = curves.conics;
-    Forwards {
+    OctantArcs {
         first: conic_arc(place, se.c1, se.h, se.weight1),
         second: conic_arc(place, se.c2, se.j, se.weight2),
         circle: cubic_arc(place, circle[1], circle[2], circle[3]),
     }
 }
 
-fn place_backwards(place: Placement, curves: Curves) -> Backwards
+fn place_backwards(place: Placement, curves: Curves) -> OctantArcs
     ensures { calls_backwards result ≡ backwards_calls place curves }
 {
     let circle = curves.circle;
     let se = curves.conics;
-    Backwards {
-        circle: cubic_arc(place, circle[2], circle[1], circle[0]),
-        second: conic_arc(place, se.c2, se.h, se.weight2),
+    OctantArcs {
         first: conic_arc(place, se.c1, se.a, se.weight1),
+        second: conic_arc(place, se.c2, se.h, se.weight2),
+        circle: cubic_arc(place, circle[2], circle[1], circle[0]),
     }
 }
 

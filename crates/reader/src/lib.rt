@@ -3,12 +3,13 @@
 
 #![tactic(auto)]
 
-ghost use Rattle.std.specs.Prelude.{◌≡◌, ◌+◌, ◌-◌, ◌*◌, ◌≤◌, length};
+ghost use Rattle.std.specs.Prelude.{◌≡◌, ◌+◌, ◌-◌, ◌*◌, ◌≤◌, length, Some};
 ghost use Rattle.stream.specs.Stream.{byte_of, point_count, state};
-ghost use Rattle.reader.specs.Reading.{point_at, element_at, segment_of, number_of, read_at, answer_of, part_at, floats_at};
+ghost use Rattle.reader.specs.Reading.{point_at, element_at, segment_of, number_of, refusal_text, read_at, answer_of, part_at, floats_at};
 ghost use Rattle.reader.specs.Bounds.{widen_of, include_of, include_segment, bounds_of, bounds_answer};
 
 use geometry::Point;
+use std::error::Error;
 use std::fmt;
 use stream::{Builder, Verb};
 
@@ -30,7 +31,7 @@ pub enum Segment {
 }
 
 // The refusal of a reading.
-#[derive(Clone, Copy)]
+#[derive(Clone, Copy, Debug)]
 pub enum ReadError {
     // Cause 1, with the same record: it does not suit the buffers.
     BadRecord(Builder),
@@ -51,6 +52,8 @@ impl ReadError {
 }
 
 impl fmt::Display for ReadError {
+    ghost output = { λ e. Some (refusal_text e) };
+
     fn fmt<W: fmt::Write>(&self, f: &mut fmt::Formatter<W>) -> fmt::Result {
         match self {
             ReadError::BadRecord(_) => f.write_str("the record does not suit the buffers"),
@@ -58,6 +61,8 @@ impl fmt::Display for ReadError {
         }
     }
 }
+
+impl Error for ReadError {}
 
 fn point_at(points: &[f32], at: usize) -> Point
     requires { 2 * at + 2 ≤ length points.now }
@@ -196,6 +201,8 @@ pub fn bounds(b: Builder, verbs: &[u8], points: &[f32]) -> Result<Option<Rect>, 
     }
     let mut seen = None;
     let mut c = Cursor { verb: 0, point: 0 };
+    // The cursor is no index: it goes on by a verb and by that verb's points. The `let .. else` is document 01's, which
+    // fixes that the loop takes the reader's answer apart so and answers 6 otherwise.
     while c.verb < b.verbs {
         let Ok((segment, next)) = read(b, verbs, points, c) else {
             return Err(ReadError::Malformed(c.verb));

@@ -3,10 +3,13 @@
 
 #![tactic(auto)]
 
-ghost use Rattle.std.specs.Prelude.{◌≡◌, ◌∷◌, [], ◌+◌, ◌*◌, ◌^◌, ◌<◌, ◌≤◌, length};
-ghost use Rattle.stream.specs.Stream.{put, verb_in, byte_of, verb_of, size_of, floats_of, point_count, fresh_builder, is_empty, bad_record, has_room, advance_of, state, push};
+ghost use Rattle.std.specs.Prelude.{◌≡◌, ◌∷◌, [], ◌++◌, ◌+◌, ◌*◌, ◌^◌, ◌<◌, ◌≤◌, length, Some, decimal};
+ghost use Rattle.stream.specs.Stream.{put, verb_in, no_verb_text, byte_of, verb_of, size_of, floats_of, point_count, CanSum, sum_of, fresh_builder, is_empty, bad_record, has_room, advance_of, state, push};
 
 use geometry::Point;
+use std::error::Error;
+use std::fmt;
+use std::ops::Add;
 
 // How much of the buffers is held, the contour's start and the pen. Start and pen mean nothing while
 // no verb is held. The counts stand apart: side by side they would be read as one, and the processor waits where
@@ -17,6 +20,16 @@ pub struct Builder {
     pub start: Point,
     pub points: usize,
     pub pen: Point,
+}
+
+// The counts alone: a point has no form for a debugger.
+impl fmt::Debug for Builder {
+    fn fmt<W: fmt::Write>(&self, f: &mut fmt::Formatter<W>) -> fmt::Result {
+        f.debug_struct("Builder")
+            .field("verbs", &self.verbs)
+            .field("points", &self.points)
+            .finish_non_exhaustive()
+    }
 }
 
 // The byte of each element in the buffer of verbs: 0 to 4, in this order.
@@ -30,10 +43,20 @@ pub enum Verb {
 }
 
 // A byte over 4, which is no verb.
-#[derive(Clone, Copy, PartialEq, Eq)]
+#[derive(Clone, Copy, Debug, PartialEq, Eq)]
 pub struct UnknownVerb {
     pub byte: u8,
 }
+
+impl fmt::Display for UnknownVerb {
+    ghost output = { λ u. Some (no_verb_text ++ decimal u.byte) };
+
+    fn fmt<W: fmt::Write>(&self, f: &mut fmt::Formatter<W>) -> fmt::Result {
+        write!(f, "no verb has the byte {}", self.byte)
+    }
+}
+
+impl Error for UnknownVerb {}
 
 impl TryFrom<u8> for Verb {
     type Error = UnknownVerb;
@@ -80,6 +103,14 @@ impl Verb {
     }
 }
 
+// How many points the verb of a byte consumes: a byte that is no verb's consumes none.
+#[tactic(auto, unfolding(crate::specs::Stream::point_count, crate::specs::Stream::verb_in))]
+pub fn point_count(verb: u8) -> usize
+    ensures { result ≡ point_count verb }
+{
+    Verb::try_from(verb).map_or(0, Verb::point_count)
+}
+
 // What a path is made of.
 #[derive(Clone, Copy)]
 pub enum Element {
@@ -108,6 +139,21 @@ impl Element {
 pub struct Need {
     pub verbs: usize,
     pub points: usize,
+}
+
+impl Add for Need {
+    type Output = Need;
+
+    ghost can_add = { CanSum };
+
+    ghost add_gives = { λ n m r. r ≡ sum_of n m };
+
+    fn add(self, m: Need) -> Need {
+        Need {
+            verbs: self.verbs + m.verbs,
+            points: self.points + m.points,
+        }
+    }
 }
 
 pub fn new() -> Builder
