@@ -15,6 +15,12 @@ use geometry::Point;
 use shape::RoundSuperellipse;
 use stream::{Builder, Need};
 
+// A cubic's need.
+const CUBIC: Need = Need {
+    verbs: 1,
+    points: 3,
+};
+
 // A conic's need on a path that holds something and has the pen there.
 fn conic_need(pen: Point, arc: ConicArc) -> Need
     ensures { Passes pen (conic_call arc ∷ []) arc.to result }
@@ -30,22 +36,12 @@ fn conic_need(pen: Point, arc: ConicArc) -> Need
     calls::need(held, Call::ConicTo(ctrl, to, arc.weight))
 }
 
-// A cubic's, wherever the pen is.
-fn cubic_need() -> Need
-    ensures { result ≡ record { verbs = 1; points = 3 } }
-{
-    Need {
-        verbs: 1,
-        points: 3,
-    }
-}
-
 fn forwards_need(pen: Point, o: OctantArcs) -> Need
     ensures { Passes pen (calls_forwards o) o.circle.to result }
 {
     let n1 = conic_need(pen, o.first);
     let n2 = conic_need(o.first.to, o.second);
-    n1 + n2 + cubic_need()
+    n1 + n2 + CUBIC
 }
 
 // Its first conic runs from the end of its cubic, wherever the pen was.
@@ -54,7 +50,7 @@ fn backwards_need(pen: Point, o: OctantArcs) -> Need
 {
     let n1 = conic_need(o.circle.to, o.second);
     let n2 = conic_need(o.second.to, o.first);
-    cubic_need() + n1 + n2
+    CUBIC + n1 + n2
 }
 
 fn corner_need(pen: Point, corner: Corner) -> Need
