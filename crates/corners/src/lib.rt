@@ -67,6 +67,8 @@ pub enum Corner {
     Round(RoundCorner),
 }
 
+// Four fields, not an array: the definitions have an array as a list of any length, and each law of a drawn outline
+// (`drawn-sizes` in contour) would ask for its length.
 #[derive(Clone, Copy)]
 pub struct Corners {
     pub first: Corner,

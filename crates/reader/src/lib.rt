@@ -5,7 +5,7 @@
 
 ghost use Rattle.std.specs.Prelude.{◌≡◌, ◌+◌, ◌-◌, ◌*◌, ◌≤◌, length, Some};
 ghost use Rattle.stream.specs.Stream.{byte_of, point_count, state};
-ghost use Rattle.reader.specs.Reading.{point_at, element_at, segment_of, number_of, refusal_text, read_at, answer_of, part_at, floats_at};
+ghost use Rattle.reader.specs.Reading.{element_at, segment_of, number_of, refusal_text, read_at, answer_of, part_at, floats_at};
 ghost use Rattle.reader.specs.Bounds.{widen_of, include_of, include_segment, bounds_of, bounds_answer};
 
 use geometry::Point;
@@ -64,30 +64,19 @@ impl fmt::Display for ReadError {
 
 impl Error for ReadError {}
 
-fn point_at(points: &[f32], at: usize) -> Point
-    requires { 2 * at + 2 ≤ length points.now }
-    ensures { result ≡ point_at points.now at }
-{
-    let i = 2 * at;
-    Point {
-        x: points[i],
-        y: points[i + 1],
-    }
-}
-
 #[tactic(auto, unfolding(stream::specs::Stream::point_count, crate::specs::Reading::element_at))]
 fn segment_at(verb: Verb, points: &[f32], at: usize) -> Segment
     requires { 2 * point_count (byte_of verb) ≤ length points.now - 2 * at }
     ensures { result ≡ segment_of (element_at (byte_of verb) points.now at) }
 {
     match verb {
-        Verb::Move => Segment::Move(point_at(points, at)),
-        Verb::Line => Segment::Line(point_at(points, at)),
-        Verb::Quad => Segment::Quad(point_at(points, at), point_at(points, at + 1)),
+        Verb::Move => Segment::Move(stream::point_at(points, 2 * at)),
+        Verb::Line => Segment::Line(stream::point_at(points, 2 * at)),
+        Verb::Quad => Segment::Quad(stream::point_at(points, 2 * at), stream::point_at(points, 2 * (at + 1))),
         Verb::Cubic => Segment::Cubic(
-            point_at(points, at),
-            point_at(points, at + 1),
-            point_at(points, at + 2),
+            stream::point_at(points, 2 * at),
+            stream::point_at(points, 2 * (at + 1)),
+            stream::point_at(points, 2 * (at + 2)),
         ),
         Verb::Close => Segment::Close,
     }

@@ -1,7 +1,7 @@
 -- A path in two lent buffers: a state is the record with the bytes and the floats lent. Elements are added behind the held ones, and what lies past
 -- them keeps what it had. Definitions only.
-use Rattle.std.specs.Prelude.{List, [], ◌∷◌, ◌++◌, Bool, ◌&&◌, ◌||◌, ℕ, zero, suc, ◌+◌, ◌*◌, ◌/◌, ◌^◌, ◌<◌, ◌≤◌, length, take, drop, leb, ltb, eqb, Float, Result, Ok, Err}
-use Rattle.std.specs.Float.{binary32}
+use Rattle.std.specs.Prelude.{List, [], ◌∷◌, ◌++◌, Bool, ◌&&◌, ◌||◌, ℕ, zero, suc, ◌+◌, ◌*◌, ◌/◌, ◌^◌, ◌<◌, ◌≤◌, length, get_or, take, drop, leb, ltb, eqb, Float, Result, Ok, Err}
+use Rattle.std.specs.Float.{binary32, nan}
 use Rattle.std.specs.Float.Ieee.{of_bits}
 use Rattle.geometry.specs.declared.Point.{Point}
 use Rattle.stream.specs.declared.Builder.{Builder}
@@ -37,6 +37,10 @@ points_of Close = []
 abbrev pub floats_in : List Point → List Float
 floats_in [] = []
 floats_in (p ∷ ps) = p.x ∷ p.y ∷ floats_in ps
+
+-- the point in the floats from index i on
+abbrev pub point_in : List Float → ℕ → Point
+point_in fs i = record { x = get_or fs i nan; y = get_or fs (i + 1) nan }
 
 abbrev pub floats_of : Element → List Float
 floats_of k = floats_in (points_of k)

@@ -4,7 +4,7 @@
 #![tactic(auto)]
 
 ghost use Rattle.std.specs.Prelude.{◌≡◌, ◌∷◌, [], ◌++◌, ◌+◌, ◌*◌, ◌^◌, ◌<◌, ◌≤◌, length, Some, decimal};
-ghost use Rattle.stream.specs.Stream.{put, verb_in, no_verb_text, byte_of, verb_of, size_of, floats_of, point_count, CanSum, sum_of, fresh_builder, is_empty, bad_record, has_room, advance_of, state, push};
+ghost use Rattle.stream.specs.Stream.{put, verb_in, no_verb_text, byte_of, verb_of, size_of, floats_in, floats_of, point_in, point_count, CanSum, sum_of, fresh_builder, is_empty, bad_record, has_room, advance_of, state, push};
 
 use geometry::Point;
 use std::error::Error;
@@ -249,13 +249,23 @@ fn advance(b: Builder, e: Element) -> Builder
     }
 }
 
-fn put_point(points: &mut [f32], at: usize, p: Point)
-    requires { 2 * at + 2 ≤ length points.old }
-    ensures { points.new ≡ put points.old (2 * at) (p.x ∷ p.y ∷ []) }
+// A point to the floats from `at` on, and the point that stands there.
+pub fn put_point(floats: &mut [f32], at: usize, p: Point)
+    requires { at + 2 ≤ length floats.old }
+    ensures { floats.new ≡ put floats.old at (floats_in (p ∷ [])) }
 {
-    let i = 2 * at;
-    points[i] = p.x;
-    points[i + 1] = p.y;
+    floats[at] = p.x;
+    floats[at + 1] = p.y;
+}
+
+pub fn point_at(floats: &[f32], at: usize) -> Point
+    requires { at + 2 ≤ length floats.now }
+    ensures { result ≡ point_in floats.now at }
+{
+    Point {
+        x: floats[at],
+        y: floats[at + 1],
+    }
 }
 
 // The points of an element from point `at` on.
@@ -263,17 +273,18 @@ fn put_points(points: &mut [f32], at: usize, e: Element)
     requires { 2 * (at + size_of e) ≤ length points.old }
     ensures { points.new ≡ put points.old (2 * at) (floats_of e) }
 {
+    let i = 2 * at;
     match e {
-        Element::Move(p) => put_point(points, at, p),
-        Element::Line(p) => put_point(points, at, p),
+        Element::Move(p) => put_point(points, i, p),
+        Element::Line(p) => put_point(points, i, p),
         Element::Quad(c, p) => {
-            put_point(points, at, c);
-            put_point(points, at + 1, p);
+            put_point(points, i, c);
+            put_point(points, i + 2, p);
         }
         Element::Cubic(c0, c1, p) => {
-            put_point(points, at, c0);
-            put_point(points, at + 1, c1);
-            put_point(points, at + 2, p);
+            put_point(points, i, c0);
+            put_point(points, i + 2, c1);
+            put_point(points, i + 4, p);
         }
         Element::Close => {}
     }

@@ -9,4 +9,4 @@ returns-in-Button c = rw c.in-Button.is (record { value = refl; floats_after = c
 
 pub returns-in-Touch : goal.returns-in-Touch
 unfolding kind_number record_floats points_of
-returns-in-Touch c = rw c.in-Touch.is (record { value = refl; floats_after = c.store_point.ensures })
+returns-in-Touch c = rw c.in-Touch.is (record { value = refl; floats_after = c.put_point.ensures })
