@@ -2,8 +2,12 @@
 
 #![tactic(auto)]
 
+mod streams;
+
 ghost use Rattle.std.specs.Prelude.{Some};
 ghost use Rattle.replies.specs.Replies.{counts_text, point_text, segment_text, reply_text};
+
+pub use streams::write_stream;
 
 use geometry::Point;
 use reader::{Cursor, Rect, Segment};
