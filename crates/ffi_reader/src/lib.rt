@@ -11,6 +11,7 @@ ghost use Rattle.ffi_reader.specs.Segments.{read, cursor_numbers, cursor_at, rea
 use ffi::{NONE, WRONG_LENGTH};
 use reader::{Cursor, ReadError, Rect, Segment};
 
+// The lengths that C lends (include/shackletongue.h).
 const CURSOR_LENGTH: usize = 3;
 
 const SEGMENT_LENGTH: usize = 6;

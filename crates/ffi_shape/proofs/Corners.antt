@@ -12,6 +12,7 @@ use Rattle.octant.specs.Binary32 as binary32
 use Rattle.quadrant.specs.declared.Quadrant.{Quadrant}
 use Rattle.quadrant.specs.Quadrant.{square_corner}
 use Rattle.containment.specs.Contains.{round_contains, norm_contains, corner_contains_of, contains_of}
+use Rattle.ffi_shape.proofs.Answers.{from_bool-is}
 use Rattle.ffi_shape.specs.Layout.{quadrant_at, shape_at}
 use Rattle.ffi_shape.specs.Making.{corners_hold, holds_of}
 
@@ -46,10 +47,6 @@ unfolding norm_contains
 round-asked q c n s r eq es ef er = rw (sym (es ∙ ap square_corner eq), ef) er
 
 -- the number that is answered
-from_bool-is : (b : Bool) → from_bool b ≡ cond b 1 0
-from_bool-is true = refl
-from_bool-is false = refl
-
 pub answered : (fs : List Float) (p : Point) (b r : Bool) (n : ℕ) → length fs ≡ 89 → n ≡ from_bool r → r ≡ b → b ≡ contains_of (shape_at fs) p → n ≡ holds_of fs p
 unfolding holds_of
 answered fs p b r n el en er eb = rw (el, ← eb, ← er) (en ∙ from_bool-is r)
