@@ -128,6 +128,7 @@ pub fn lowered_need(b: Builder, l: Lowered) -> Need
 }
 
 // A close on an empty builder adds nothing.
+#[tactic(auto, unfolding(lowering::specs::Entries::elements_of, stream::specs::Stream::sizes_of))]
 pub fn close_need(b: Builder) -> Need
     ensures { result ≡ need_of (elements_of (closing (is_empty b))) }
 {
@@ -163,6 +164,7 @@ pub fn need(b: Builder, call: Call) -> Need
 }
 
 // Whether a need is met by buffers of these lengths.
+#[tactic(auto, unfolding(crate::specs::Calls::admit_of))]
 pub fn admit(b: Builder, verbs: usize, floats: usize, need: Need) -> Result<(), BuildError>
     ensures { result ≡ admit_of b verbs floats need }
 {

@@ -84,6 +84,7 @@ pub struct Outline {
     pub corners: Corners,
 }
 
+#[tactic(auto, unfolding(crate::specs::Corners::curves_of))]
 fn solve(top: Octant, right: Octant) -> BothCurves
     ensures { (result.top ≡ curves_of top) × (result.right ≡ curves_of right) }
 {
@@ -113,6 +114,7 @@ fn placement(param: Octant, offset: Point, scale: Point, flip: bool) -> Placemen
     }
 }
 
+#[tactic(auto, unfolding(crate::specs::Corners::placed_conic))]
 fn conic_arc(place: Placement, ctrl: Point, to: Point, weight: f32) -> ConicArc
     ensures { conic_call result ≡ placed_conic place ctrl to weight }
 {
@@ -123,6 +125,7 @@ fn conic_arc(place: Placement, ctrl: Point, to: Point, weight: f32) -> ConicArc
     }
 }
 
+#[tactic(auto, unfolding(crate::specs::Corners::placed_cubic))]
 fn cubic_arc(place: Placement, c0: Point, c1: Point, to: Point) -> CubicArc
     ensures { cubic_call result ≡ placed_cubic place c0 c1 to }
 {
@@ -133,6 +136,7 @@ fn cubic_arc(place: Placement, c0: Point, c1: Point, to: Point) -> CubicArc
     }
 }
 
+#[tactic(auto, unfolding(crate::specs::Corners::forwards_calls))]
 fn place_forwards(place: Placement, curves: Curves) -> OctantArcs
     ensures { calls_forwards result ≡ forwards_calls place curves }
 {
@@ -145,6 +149,7 @@ fn place_forwards(place: Placement, curves: Curves) -> OctantArcs
     }
 }
 
+#[tactic(auto, unfolding(crate::specs::Corners::backwards_calls))]
 fn place_backwards(place: Placement, curves: Curves) -> OctantArcs
     ensures { calls_backwards result ≡ backwards_calls place curves }
 {
@@ -158,6 +163,7 @@ fn place_backwards(place: Placement, curves: Curves) -> OctantArcs
 }
 
 // Where the second line of a square corner goes.
+#[tactic(auto, unfolding(crate::specs::Corners::next_of))]
 fn next_point(param: Quadrant, reverse: bool) -> Point
     ensures { result ≡ next_of param reverse }
 {
@@ -175,6 +181,7 @@ fn next_point(param: Quadrant, reverse: bool) -> Point
         }
 }
 
+#[tactic(auto, unfolding(crate::specs::Corners::square_calls))]
 fn square_corner(param: Quadrant, reverse: bool, scale: Point) -> Corner
     ensures { calls_of result ≡ square_calls param reverse scale }
 {
@@ -185,6 +192,7 @@ fn square_corner(param: Quadrant, reverse: bool, scale: Point) -> Corner
 }
 
 // The octant that is drawn first goes forwards, the other backwards; the right one is flipped.
+#[tactic(auto, unfolding(crate::specs::Corners::solved_calls))]
 fn round_corner(param: Quadrant, top: Curves, right: Curves, reverse: bool, scale: Point) -> Corner
     ensures { calls_of result ≡ solved_calls param top right reverse scale }
 {
@@ -290,6 +298,7 @@ fn draw_round(p: Quadrant, q: Quadrant, r: Quadrant, s: Quadrant) -> Corners
 }
 
 // Each corner by itself.
+#[tactic(auto, unfolding(crate::specs::Corners::unequal_corners))]
 fn draw_apart(shape: RoundSuperellipse) -> Corners
     ensures { call_lists result ≡ unequal_corners shape }
 {
@@ -326,6 +335,7 @@ fn unequal_corners(shape: RoundSuperellipse) -> Corners
     )
 }
 
+#[tactic(auto, unfolding(crate::specs::Corners::corners_of, crate::specs::Corners::unequal_corners))]
 fn draw_corners(shape: RoundSuperellipse) -> Corners
     ensures { call_lists result ≡ corners_of shape }
 {
@@ -335,6 +345,7 @@ fn draw_corners(shape: RoundSuperellipse) -> Corners
     unequal_corners(shape)
 }
 
+#[tactic(auto, unfolding(crate::specs::Corners::start_point))]
 fn start_point(tr: Quadrant) -> Point
     ensures { result ≡ start_point tr }
 {
@@ -346,6 +357,7 @@ fn start_point(tr: Quadrant) -> Point
     tr.offset + tr.signed_scale * side
 }
 
+#[tactic(auto, unfolding(crate::specs::Calls::outline_of))]
 pub fn draw(shape: RoundSuperellipse) -> Outline
     ensures { drawing_of result ≡ outline_of shape }
 {

@@ -34,6 +34,7 @@ fn store_button(floats: &mut [f32], b: Button)
 }
 
 // The number of the record's kind, as C reads it (include/shackletongue.h).
+#[tactic(auto, unfolding(crate::specs::Asking::kind_number, crate::specs::Asking::points_of, crate::specs::Asking::record_floats))]
 fn store_record(floats: &mut [f32], record: Record) -> u64
     requires { length floats.old ≡ 12 }
     ensures value { result ≡ kind_number «record» }

@@ -59,6 +59,7 @@ fn store_cursor(cursor: &mut [u64], next: Cursor, kind: u64)
     cursor[2] = kind;
 }
 
+#[tactic(auto, unfolding(crate::specs::Segments::cursor_at))]
 fn cursor_at(cursor: &[u64]) -> Cursor
     requires { length cursor.now ≡ 3 }
     ensures { result ≡ cursor_at cursor.now }

@@ -69,6 +69,7 @@ fn store_shape(floats: &mut [f32], s: RoundSuperellipse)
     floats[88] = flag(s.all_corners_same);
 }
 
+#[tactic(auto, unfolding(crate::specs::Layout::octant_at))]
 fn octant_at(floats: &[f32], at: usize) -> Octant
     requires { at + 9 ≤ length floats.now }
     ensures { result ≡ octant_at floats.now at }
@@ -83,6 +84,7 @@ fn octant_at(floats: &[f32], at: usize) -> Octant
     }
 }
 
+#[tactic(auto, unfolding(crate::specs::Layout::quadrant_at))]
 fn quadrant_at(floats: &[f32], at: usize) -> Quadrant
     requires { at + 22 ≤ length floats.now }
     ensures { result ≡ quadrant_at floats.now at }
@@ -95,6 +97,7 @@ fn quadrant_at(floats: &[f32], at: usize) -> Quadrant
     }
 }
 
+#[tactic(auto, unfolding(crate::specs::Layout::shape_at))]
 pub fn shape_at(shape: &[f32]) -> RoundSuperellipse
     requires { length shape.now ≡ 89 }
     ensures { result ≡ shape_at shape.now }
@@ -110,6 +113,7 @@ pub fn shape_at(shape: &[f32]) -> RoundSuperellipse
 
 // The floats of a line have no length that was tested, and one that is missing is a NaN: they are read by operands' `bounds`
 // and `radii`.
+#[tactic(auto, unfolding(crate::specs::Layout::bounds_at))]
 pub fn bounds_at(sizes: &[f32]) -> Bounds
     requires { length sizes.now ≡ 12 }
     ensures { result ≡ bounds_at sizes.now }
@@ -120,6 +124,7 @@ pub fn bounds_at(sizes: &[f32]) -> Bounds
     }
 }
 
+#[tactic(auto, unfolding(crate::specs::Layout::radii_at))]
 fn radii_at(sizes: &[f32]) -> CornerRadii
     requires { length sizes.now ≡ 12 }
     ensures { result ≡ radii_at sizes.now }
@@ -171,6 +176,7 @@ fn norm_holds(shape: &[f32], at: usize, x: f32, y: f32) -> bool
 }
 
 // Whether the corner at `at` holds the point, or is not asked: it is not in its quadrant.
+#[tactic(auto, unfolding(containment::specs::Contains::corner_contains_of, crate::specs::Layout::quadrant_at))]
 fn corner_holds(shape: &[f32], at: usize, p: Point) -> bool
     requires { at + 22 ≤ length shape.now }
     ensures { result ≡ corner_contains_of (quadrant_at shape.now at) p true }
@@ -194,6 +200,7 @@ fn corners_hold(shape: &[f32], p: Point) -> bool
 
 // Whether the first corner, a round one, holds a point in its own space. The right octant is read only where the top one
 // holds the point.
+#[tactic(auto, unfolding(crate::specs::Layout::quadrant_at, containment::specs::Contains::round_contains))]
 fn octants_hold(shape: &[f32], n: Point) -> bool
     requires { length shape.now ≡ 89 }
     ensures { result ≡ round_contains (quadrant_at shape.now 0) n }

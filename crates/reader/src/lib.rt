@@ -136,6 +136,7 @@ pub struct Rect {
 }
 
 // The box of the points that were seen, if there were any, with one more.
+#[tactic(auto, unfolding(crate::specs::Bounds::widen_of))]
 fn widen(seen: Option<Rect>, p: Point) -> Option<Rect>
     ensures { result ≡ widen_of seen p }
 {
@@ -159,6 +160,7 @@ fn widen(seen: Option<Rect>, p: Point) -> Option<Rect>
 }
 
 // A point that is not finite is passed over.
+#[tactic(auto, unfolding(crate::specs::Bounds::include_of))]
 fn include(seen: Option<Rect>, p: Point) -> Option<Rect>
     ensures { result ≡ include_of seen p }
 {
@@ -168,6 +170,7 @@ fn include(seen: Option<Rect>, p: Point) -> Option<Rect>
     seen
 }
 
+#[tactic(auto, unfolding(crate::specs::Bounds::include_all, crate::specs::Bounds::include_segment))]
 fn include_segment(seen: Option<Rect>, s: Segment) -> Option<Rect>
     ensures { result ≡ include_segment seen s }
 {

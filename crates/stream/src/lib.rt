@@ -175,6 +175,7 @@ pub fn is_empty(b: Builder) -> bool
 
 // Cause 1: the record does not suit buffers of these lengths. A division, since twice the point count
 // may overflow.
+#[tactic(auto, unfolding(crate::specs::Stream::bad_record))]
 pub fn bad_record(b: Builder, verbs: usize, floats: usize) -> bool
     ensures { result ≡ bad_record b verbs floats }
 {
@@ -208,6 +209,7 @@ pub fn has_room(b: Builder, verbs: usize, floats: usize, need: Need) -> bool
 }
 
 // The record after one element more.
+#[tactic(auto, unfolding(crate::specs::Stream::advance_of))]
 fn advance(b: Builder, e: Element) -> Builder
     requires { (b.verbs + 1 < 2 ^ 64) × (b.points + 3 < 2 ^ 64) }
     ensures { result ≡ advance_of b e }
