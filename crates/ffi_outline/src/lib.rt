@@ -95,8 +95,5 @@ pub fn shackletongue_is_consistent(sizes: &[f32], shape: &[f32]) -> u32
     if shape.len() != SHAPE_LENGTH {
         return WRONG_LENGTH;
     }
-    u32::from(inspection::is_consistent(
-        ffi_shape::bounds_at(sizes),
-        ffi_shape::shape_at(shape),
-    ))
+    u32::from(inspection::is_consistent(ffi_shape::bounds_at(sizes), ffi_shape::shape_at(shape)))
 }

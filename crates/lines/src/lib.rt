@@ -7,9 +7,8 @@ ghost use Rattle.std.specs.Prelude.{◌≡◌, ◌≤◌, length, IfOk, IfSome, 
 ghost use Rattle.lines.specs.Lines.{fresh, too_long_text};
 
 use std::error::Error;
-use std::fmt;
-use std::io;
 use std::io::Read;
+use std::{fmt, io};
 use text::Class;
 
 // A line that there is no room for.

@@ -72,7 +72,10 @@ fn segment_at(verb: Verb, points: &[f32], at: usize) -> Segment
     match verb {
         Verb::Move => Segment::Move(stream::point_at(points, 2 * at)),
         Verb::Line => Segment::Line(stream::point_at(points, 2 * at)),
-        Verb::Quad => Segment::Quad(stream::point_at(points, 2 * at), stream::point_at(points, 2 * (at + 1))),
+        Verb::Quad => Segment::Quad(
+            stream::point_at(points, 2 * at),
+            stream::point_at(points, 2 * (at + 1)),
+        ),
         Verb::Cubic => Segment::Cubic(
             stream::point_at(points, 2 * at),
             stream::point_at(points, 2 * (at + 1)),

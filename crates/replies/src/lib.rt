@@ -7,12 +7,11 @@ mod streams;
 ghost use Rattle.std.specs.Prelude.{Some};
 ghost use Rattle.replies.specs.Replies.{counts_text, point_text, segment_text, reply_text};
 
-pub use streams::write_stream;
-
 use geometry::Point;
 use reader::{Cursor, Rect, Segment};
 use std::fmt;
 use stream::Builder;
+pub use streams::write_stream;
 use text::{Hexadecimal, Spelled};
 
 #[derive(Drop)]
