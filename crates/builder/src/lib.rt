@@ -14,6 +14,7 @@ use lowering::Written;
 use stream::{Builder, Element, Need};
 
 // The opening move of a builder that is empty.
+#[tactic(auto, unfolding(lowering::specs::Entries::elements_of, stream::specs::Stream::push_all))]
 fn ensure_started(b: Builder, verbs: &mut [u8], points: &mut [f32]) -> Builder
     requires { (b.verbs + (1 - b.verbs) ≤ length verbs.old) × (2 * (b.points + (1 - b.verbs)) ≤ length points.old) }
     ensures { state result verbs.new points.new ≡ push_all (state b verbs.old points.old) (elements_of (opening (is_empty b))) }
@@ -50,6 +51,7 @@ pub fn move_to(
     Ok(stream::push(b, verbs, points, Element::Move(p)))
 }
 
+#[tactic(auto, unfolding(calls::specs::Calls::entries_of, calls::specs::Calls::step))]
 pub fn line_to(
     b: Builder,
     verbs: &mut [u8],
@@ -61,6 +63,7 @@ pub fn line_to(
     add(b, verbs, points, Element::Line(p))
 }
 
+#[tactic(auto, unfolding(calls::specs::Calls::entries_of, calls::specs::Calls::step))]
 pub fn quad_to(
     b: Builder,
     verbs: &mut [u8],
@@ -73,6 +76,7 @@ pub fn quad_to(
     add(b, verbs, points, Element::Quad(ctrl, p))
 }
 
+#[tactic(auto, unfolding(calls::specs::Calls::entries_of, calls::specs::Calls::step))]
 pub fn cubic_to(
     b: Builder,
     verbs: &mut [u8],

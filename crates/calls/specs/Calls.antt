@@ -7,7 +7,7 @@ use Rattle.conic.specs.Conic.{lower_of}
 use Rattle.stream.specs.declared.Builder.{Builder}
 use Rattle.stream.specs.declared.Element.TheVariants.{Move, Line, Quad, Cubic, Close}
 use Rattle.stream.specs.declared.Need.{Need}
-use Rattle.stream.specs.Stream.{State, state, origin, is_empty, bad_record, has_room, bad_state, room_for, push_all}
+use Rattle.stream.specs.Stream.{State, state, origin, is_empty, bad_record, bad_record_text, has_room, bad_state, room_for, push_all}
 use Rattle.lowering.specs.declared.Written.{Written}
 use Rattle.lowering.specs.Entries.{Entry, plain, elements_of, joint_word, lowered_of}
 use Rattle.calls.specs.declared.Call.{Call}
@@ -78,6 +78,14 @@ abbrev pub record_of : BuildError → Builder
 record_of (BadRecord b) = b
 record_of (NoRoom b) = b
 
+abbrev pub no_room_text : List ℕ
+no_room_text = 110 ∷ 111 ∷ 32 ∷ 114 ∷ 111 ∷ 111 ∷ 109 ∷ 32 ∷ 105 ∷ 110 ∷ 32 ∷ 116 ∷ 104 ∷ 101 ∷ 32 ∷ 98 ∷ 117 ∷ 102 ∷ 102 ∷ 101 ∷ 114 ∷ 115 ∷ []  -- `no room in the buffers`
+
+-- what is told of a refusal
+abbrev pub refusal_text : BuildError → List ℕ
+refusal_text (BadRecord b) = bad_record_text
+refusal_text (NoRoom b) = no_room_text
+
 abbrev pub refusal_of : BuildError → List ℕ → List Float → Outcome
 refusal_of e vs fs = outcome (number_of e) 0 (state (record_of e) vs fs)
 
@@ -89,6 +97,11 @@ outcome_of (Err e) vs fs = refusal_of e vs fs
 abbrev pub conic_outcome_of : Result Written BuildError → List ℕ → List Float → Outcome
 conic_outcome_of (Ok w) vs fs = outcome 0 w.word (state w.builder vs fs)
 conic_outcome_of (Err e) vs fs = refusal_of e vs fs
+
+-- an answer with a joint word beside its record
+abbrev pub with_word : Result Builder BuildError → ℕ → Result Written BuildError
+with_word (Ok b) w = Ok (record { builder = b; word = w })
+with_word (Err e) w = Err e
 
 -- the refusal of a need in buffers of vn bytes and fn floats, if there is one
 unfoldable pub admit_of : Builder → ℕ → ℕ → Need → Result ⊤ BuildError

@@ -3,13 +3,15 @@
 
 #![tactic(auto)]
 
-ghost use Rattle.std.specs.Prelude.{◌≡◌, ◌++◌};
+ghost use Rattle.std.specs.Prelude.{◌≡◌, ◌++◌, Some};
 ghost use Rattle.stream.specs.Stream.{is_empty, need_of};
 ghost use Rattle.lowering.specs.Entries.{elements_of, lowered_of};
-ghost use Rattle.calls.specs.Calls.{conic_from, opened_need, opening, closing, entries_of, number_of, record_of, admit_of};
+ghost use Rattle.calls.specs.Calls.{conic_from, opened_need, opening, closing, entries_of, number_of, record_of, refusal_text, with_word, admit_of};
 
 use conic::{Conic, Lowered};
 use geometry::Point;
+use lowering::Written;
+use std::error::Error;
 use std::fmt;
 use stream::{Builder, Need};
 
@@ -27,7 +29,7 @@ pub enum Call {
 }
 
 // The refusal of a call, with the same record.
-#[derive(Clone, Copy)]
+#[derive(Clone, Copy, Debug)]
 pub enum BuildError {
     // Cause 1: the record does not suit the buffers.
     BadRecord(Builder),
@@ -57,12 +59,23 @@ impl BuildError {
 }
 
 impl fmt::Display for BuildError {
+    ghost output = { λ e. Some (refusal_text e) };
+
     fn fmt<W: fmt::Write>(&self, f: &mut fmt::Formatter<W>) -> fmt::Result {
         f.write_str(match self {
             BuildError::BadRecord(_) => "the record does not suit the buffers",
             BuildError::NoRoom(_) => "no room in the buffers",
         })
     }
+}
+
+impl Error for BuildError {}
+
+// The same answer with a joint word.
+pub fn with_word(a: Result<Builder, BuildError>, word: u64) -> Result<Written, BuildError>
+    ensures { result ≡ with_word a word }
+{
+    a.map(|builder| Written { builder, word })
 }
 
 // A conic that starts at the pen: on an empty builder at (0, 0), whatever the record's pen.
@@ -115,6 +128,7 @@ pub fn lowered_need(b: Builder, l: Lowered) -> Need
 }
 
 // A close on an empty builder adds nothing.
+#[tactic(auto, unfolding(lowering::specs::Entries::elements_of, stream::specs::Stream::sizes_of))]
 pub fn close_need(b: Builder) -> Need
     ensures { result ≡ need_of (elements_of (closing (is_empty b))) }
 {
@@ -150,6 +164,7 @@ pub fn need(b: Builder, call: Call) -> Need
 }
 
 // Whether a need is met by buffers of these lengths.
+#[tactic(auto, unfolding(crate::specs::Calls::admit_of))]
 pub fn admit(b: Builder, verbs: usize, floats: usize, need: Need) -> Result<(), BuildError>
     ensures { result ≡ admit_of b verbs floats need }
 {

@@ -1,13 +1,13 @@
 -- The needs of a corner and of a drawn outline, from those of their parts.
-use mathlib.Core.Path.{◌≡◌, refl, sym, subst}
+use mathlib.Core.Path.{◌≡◌, refl, sym, ap, subst}
 use mathlib.Core.List.{[], ◌∷◌, ◌++◌, flatten}
-use Prim.Native.Nat.{◌+◌, ◌≤◌}
+use Prim.Native.Nat.{ℕ, ◌+◌, ◌*◌, ◌≤◌}
 use native.Mathlib.Omega.{arith}
 use lib.Dec.{lit≤}
 use lib.ListN.{length}
 use Rattle.geometry.specs.declared.Point.{Point}
 use Rattle.stream.specs.declared.Need.{Need}
-use Rattle.stream.specs.Stream.{origin, need_of}
+use Rattle.stream.specs.Stream.{origin, need_of, sum_of, CanSum}
 use Rattle.lowering.specs.Entries.{elements_of}
 use Rattle.calls.specs.declared.Call.TheVariants.{LineTo}
 use Rattle.corners.specs.declared.RoundCorner.{RoundCorner}
@@ -24,34 +24,46 @@ Counted pen corner n = Passes pen (calls_of corner) (last_point corner) n
 pub counted_square : (pen p q : Point) (corner : Corner) → corner ≡ Square p q → Counted pen corner (record { verbs = 2; points = 2 })
 counted_square pen p q corner e =
     subst (λ (x : Corner). Counted pen x (record { verbs = 2; points = 2 })) (sym e)
-    (passes-sum _ _ _ (LineTo p ∷ []) (LineTo q ∷ []) _ _ _ (passes_line pen p) (passes_line p q) refl refl)
+    (passes-sum (passes_line pen p) (passes_line p q) refl)
 
-pub counted_round : (pen : Point) (r : RoundCorner) (corner : Corner) (n m : Need) → corner ≡ Round r
+pub counted_round : (pen : Point) (r : RoundCorner) (corner : Corner) (n m k : Need) → corner ≡ Round r
     → Passes pen (calls_forwards r.forwards) r.forwards.circle.to n
     → Passes r.forwards.circle.to (calls_backwards r.backwards) r.backwards.first.to m
-    → Counted pen corner (record { verbs = n.verbs + m.verbs; points = n.points + m.points })
-counted_round pen r corner n m e h g =
-    let k : Need = record { verbs = n.verbs + m.verbs; points = n.points + m.points } in
-    subst (λ (x : Corner). Counted pen x k) (sym e) (passes-sum _ _ _ (calls_forwards r.forwards) (calls_backwards r.backwards) n m k h g refl refl)
+    → k ≡ sum_of n m → Counted pen corner k
+counted_round pen r corner n m k e h g s = subst (λ (x : Corner). Counted pen x k) (sym e) (passes-sum h g s)
 
 -- a corner has at most 6 calls
 short : (corner : Corner) → length (calls_of corner) ≤ 6
 short (Square p q) = lit≤ tt
 short (Round r) = lit≤ tt
 
-pub counted_few : (pen : Point) (corner : Corner) (n : Need) → Counted pen corner n → (n.verbs ≤ 384) × (n.points ≤ 768)
-counted_few pen corner n h = let f = passes-few h in let g = short corner in (omega arith, omega arith)
+-- what at most k corners need, and sums of that
+pub record Few (k : ℕ) (n : Need) : Type 0 where
+  pub verbs : n.verbs ≤ 384 * k
+  pub points : n.points ≤ 768 * k
+
+pub counted_few : {pen : Point} {n : Need} (corner : Corner) → Counted pen corner n → Few 1 n
+counted_few {pen} {n} corner h = let f = passes-few h in let g = short corner in record { verbs = omega arith; points = omega arith }
+
+pub sum_few : {k l : ℕ} {n m s : Need} → Few k n → Few l m → s ≡ sum_of n m → Few (k + l) s
+sum_few {k} {l} {n} {m} {s} f g e =
+    let v = ap (λ (x : Need). x.verbs) e in
+    let p = ap (λ (x : Need). x.points) e in
+    record { verbs = omega (arith, f.verbs, g.verbs); points = omega (arith, f.points, g.points) }
+
+pub few_sum : {k l : ℕ} {n m : Need} → Few k n → Few l m → k + l ≤ 8 → CanSum n m
+few_sum {k} {l} {n} {m} f g h = (omega (arith, f.verbs, g.verbs), omega (arith, f.points, g.points))
 
 -- four corners, each from where the one before ends
 module _ (o : Outline) (p q r : Point) (n1 n2 n3 n4 k : Need)
     (ep : p ≡ last_point o.corners.first) (eq : q ≡ last_point o.corners.second) (er : r ≡ last_point o.corners.third)
     (h1 : Counted o.start o.corners.first n1) (h2 : Counted p o.corners.second n2) (h3 : Counted q o.corners.third n3) (h4 : Counted r o.corners.fourth n4)
   where
-    abbrev sum : Need → Need → Need
-    sum n m = record { verbs = n.verbs + m.verbs; points = n.points + m.points }
+    abbrev none : Need
+    none = record { verbs = 0; points = 0 }
 
     abbrev four : Need
-    four = sum n1 (sum n2 (sum n3 (sum n4 (record { verbs = 0; points = 0 }))))
+    four = sum_of n1 (sum_of n2 (sum_of n3 (sum_of n4 none)))
 
     passes-four : Passes o.start (flatten (drawing_of o).corners) (last_point o.corners.fourth) four
     unfolding flatten
@@ -60,12 +72,15 @@ module _ (o : Outline) (p q r : Point) (n1 n2 n3 n4 k : Need)
         let g2 = subst (λ (x : Point). Counted x c.second n2) ep h2 in
         let g3 = subst (λ (x : Point). Counted x c.third n3) eq h3 in
         let g4 = subst (λ (x : Point). Counted x c.fourth n4) er h4 in
-        let r4 = passes-sum _ _ _ (calls_of c.fourth) [] _ _ (sum n4 (record { verbs = 0; points = 0 })) g4 (passes_none (last_point c.fourth)) refl refl in
-        let r3 = passes-sum _ _ _ (calls_of c.third) (calls_of c.fourth ++ []) _ _ (sum n3 (sum n4 (record { verbs = 0; points = 0 }))) g3 r4 refl refl in
-        let r2 = passes-sum _ _ _ (calls_of c.second) (calls_of c.third ++ (calls_of c.fourth ++ [])) _ _ (sum n2 (sum n3 (sum n4 (record { verbs = 0; points = 0 })))) g2 r3 refl refl in
-        passes-sum _ _ _ (calls_of c.first) (calls_of c.second ++ (calls_of c.third ++ (calls_of c.fourth ++ []))) _ _ four h1 r2 refl refl
+        let r4 = passes-sum {k = sum_of n4 none} g4 (passes_none (last_point c.fourth)) refl in
+        let r3 = passes-sum {k = sum_of n3 (sum_of n4 none)} g3 r4 refl in
+        let r2 = passes-sum {k = sum_of n2 (sum_of n3 (sum_of n4 none))} g2 r3 refl in
+        passes-sum {k = four} h1 r2 refl
 
-    pub counted_outline : k.verbs ≡ n1.verbs + n2.verbs + n3.verbs + n4.verbs + 3 → k.points ≡ n1.points + n2.points + n3.points + n4.points + 2
+    pub counted_outline : k ≡ sum_of (sum_of (sum_of (sum_of n1 n2) n3) n4) (record { verbs = 3; points = 2 })
         → k ≡ need_of (elements_of (entries_along origin origin (calls_in (drawing_of o))))
     unfolding calls_in
-    counted_outline ev em = outline_need_lem o.start (last_point o.corners.fourth) (flatten (drawing_of o).corners) four k passes-four (omega arith) (omega arith)
+    counted_outline e =
+        let v = ap (λ (x : Need). x.verbs) e in
+        let m = ap (λ (x : Need). x.points) e in
+        outline_need_lem o.start (last_point o.corners.fourth) (flatten (drawing_of o).corners) four k passes-four (omega arith) (omega arith)

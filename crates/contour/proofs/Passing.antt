@@ -11,7 +11,7 @@ use Rattle.geometry.specs.declared.Point.{Point}
 use Rattle.stream.specs.declared.Element.{Element}
 use Rattle.stream.specs.declared.Element.TheVariants.{Move, Line, Close}
 use Rattle.stream.specs.declared.Need.{Need}
-use Rattle.stream.specs.Stream.{origin, sizes_of, need_of, start_after, pen_after}
+use Rattle.stream.specs.Stream.{origin, sizes_of, need_of, sum_of, start_after, pen_after}
 use Rattle.stream.proofs.Pushed.{sizes_append}
 use Rattle.lowering.specs.Entries.{Entry, plain, elements_of}
 use Rattle.lowering.proofs.Entries.{elements_append}
@@ -22,10 +22,7 @@ use Rattle.contour.specs.Entries.{entries_along, Passes}
 use Rattle.contour.proofs.Along.{start_append, pen_append, along_append}
 use Rattle.contour.proofs.Conics.{conic_adds}
 
-abbrev plus : Need → Need → Need
-plus n m = record { verbs = n.verbs + m.verbs; points = n.points + m.points }
-
-need_append : (es ds : List Entry) → need_of (elements_of (es ++ ds)) ≡ plus (need_of (elements_of es)) (need_of (elements_of ds))
+need_append : (es ds : List Entry) → need_of (elements_of (es ++ ds)) ≡ sum_of (need_of (elements_of es)) (need_of (elements_of ds))
 need_append es ds =
     let ks = elements_of es in
     let js = elements_of ds in
@@ -64,9 +61,9 @@ module _ (p q r : Point) (cs ds : List Call) (n m : Need) (h : Passes p cs q n) 
   elements_joined : (s : Point) → elements_of (entries_along s p (cs ++ ds)) ≡ elements_of (entries_along s p cs) ++ elements_of (entries_along s q ds)
   elements_joined s = ap elements_of (along_then h s ds) ∙ elements_append (entries_along s p cs) (entries_along s q ds)
 
-  pub passes-join : Passes p (cs ++ ds) r (plus n m)
+  pub passes-join : Passes p (cs ++ ds) r (sum_of n m)
   passes-join = record {
-    need = λ s. ap (λ (es : List Entry). need_of (elements_of es)) (along_then h s ds) ∙ need_append (entries_along s p cs) (entries_along s q ds) ∙ ap₂ plus (h.need s) (g.need s);
+    need = λ s. ap (λ (es : List Entry). need_of (elements_of es)) (along_then h s ds) ∙ need_append (entries_along s p cs) (entries_along s q ds) ∙ ap₂ sum_of (h.need s) (g.need s);
     start = λ s. let ks = elements_of (entries_along s p cs) in let js = elements_of (entries_along s q ds) in
         ap (start_after s) (elements_joined s) ∙ start_append s ks js ∙ ap (λ (x : Point). start_after x js) (h.start s) ∙ g.start s;
     pen = λ s. let ks = elements_of (entries_along s p cs) in let js = elements_of (entries_along s q ds) in
@@ -74,10 +71,8 @@ module _ (p q r : Point) (cs ds : List Call) (n m : Need) (h : Passes p cs q n) 
   }
 
 -- the sum as the code has it
-pub passes-sum : (p q r : Point) (cs ds : List Call) (n m k : Need) → Passes p cs q n → Passes q ds r m → k.verbs ≡ n.verbs + m.verbs → k.points ≡ n.points + m.points → Passes p (cs ++ ds) r k
-passes-sum p q r cs ds n m k h g ev ep =
-    let e : plus n m ≡ k = λ i. record { verbs = sym ev i; points = sym ep i } in
-    subst (λ (x : Need). Passes p (cs ++ ds) r x) e (passes-join p q r cs ds n m h g)
+pub passes-sum : {p q r : Point} {cs ds : List Call} {n m k : Need} → Passes p cs q n → Passes q ds r m → k ≡ sum_of n m → Passes p (cs ++ ds) r k
+passes-sum {p} {q} {r} {cs} {ds} {n} {m} h g e = subst (λ (x : Need). Passes p (cs ++ ds) r x) (sym e) (passes-join p q r cs ds n m h g)
 
 pub passes_none : (p : Point) → Passes p [] p (record { verbs = 0; points = 0 })
 unfolding entries_along elements_of sizes_of start_after pen_after

@@ -10,10 +10,16 @@ ghost use Rattle.corners.specs.Calls.{conic_call, calls_forwards, calls_backward
 ghost use Rattle.contour.specs.Entries.{Passes, last_point, entries_along, outline_entries};
 
 use calls::Call;
-use corners::{Backwards, ConicArc, Corner, Forwards, Outline};
+use corners::{ConicArc, Corner, OctantArcs, Outline};
 use geometry::Point;
 use shape::RoundSuperellipse;
 use stream::{Builder, Need};
+
+// A cubic's need.
+const CUBIC: Need = Need {
+    verbs: 1,
+    points: 3,
+};
 
 // A conic's need on a path that holds something and has the pen there.
 fn conic_need(pen: Point, arc: ConicArc) -> Need
@@ -30,27 +36,21 @@ fn conic_need(pen: Point, arc: ConicArc) -> Need
     calls::need(held, Call::ConicTo(ctrl, to, arc.weight))
 }
 
-fn forwards_need(pen: Point, o: Forwards) -> Need
+fn forwards_need(pen: Point, o: OctantArcs) -> Need
     ensures { Passes pen (calls_forwards o) o.circle.to result }
 {
     let n1 = conic_need(pen, o.first);
     let n2 = conic_need(o.first.to, o.second);
-    Need {
-        verbs: n1.verbs + n2.verbs + 1,
-        points: n1.points + n2.points + 3,
-    }
+    n1 + n2 + CUBIC
 }
 
 // Its first conic runs from the end of its cubic, wherever the pen was.
-fn backwards_need(pen: Point, o: Backwards) -> Need
+fn backwards_need(pen: Point, o: OctantArcs) -> Need
     ensures { Passes pen (calls_backwards o) o.first.to result }
 {
     let n1 = conic_need(o.circle.to, o.second);
     let n2 = conic_need(o.second.to, o.first);
-    Need {
-        verbs: n1.verbs + n2.verbs + 1,
-        points: n1.points + n2.points + 3,
-    }
+    CUBIC + n1 + n2
 }
 
 fn corner_need(pen: Point, corner: Corner) -> Need
@@ -64,10 +64,7 @@ fn corner_need(pen: Point, corner: Corner) -> Need
         Corner::Round(r) => {
             let n1 = forwards_need(pen, r.forwards);
             let n2 = backwards_need(r.forwards.circle.to, r.backwards);
-            Need {
-                verbs: n1.verbs + n2.verbs,
-                points: n1.points + n2.points,
-            }
+            n1 + n2
         }
     }
 }
@@ -93,10 +90,12 @@ pub fn outline_need(o: Outline) -> Need
     let n2 = corner_need(last_point(first), second);
     let n3 = corner_need(last_point(second), third);
     let n4 = corner_need(last_point(third), fourth);
-    Need {
-        verbs: n1.verbs + n2.verbs + n3.verbs + n4.verbs + 3,
-        points: n1.points + n2.points + n3.points + n4.points + 2,
-    }
+    // the move, and the closing line and the close
+    let ends = Need {
+        verbs: 3,
+        points: 2,
+    };
+    n1 + n2 + n3 + n4 + ends
 }
 
 // What an outline adds to a record's counts, if it is accepted.

@@ -107,7 +107,7 @@ fn draw(
         held = draw_at(rt, face, held, verbs, points, x)?;
         x += 1.5;
     }
-    lines::write_stream(rt, held, verbs, points)
+    replies::write_stream(rt, held, verbs, points, true)
 }
 
 // One list of calls, from this record, in buffers of v verbs and f floats.

@@ -6,8 +6,7 @@ use Rattle.calls.specs.declared.Call.{Call}
 use Rattle.calls.specs.declared.Call.TheVariants.{MoveTo, LineTo, ConicTo, CubicTo, Close}
 use Rattle.corners.specs.declared.ConicArc.{ConicArc}
 use Rattle.corners.specs.declared.CubicArc.{CubicArc}
-use Rattle.corners.specs.declared.Forwards.{Forwards}
-use Rattle.corners.specs.declared.Backwards.{Backwards}
+use Rattle.corners.specs.declared.OctantArcs.{OctantArcs}
 use Rattle.corners.specs.declared.Corner.{Corner}
 use Rattle.corners.specs.declared.Corner.TheVariants.{Square, Round}
 use Rattle.corners.specs.declared.Corners.{Corners}
@@ -20,10 +19,10 @@ conic_call a = ConicTo a.ctrl a.to a.weight
 abbrev pub cubic_call : CubicArc → Call
 cubic_call a = CubicTo a.c0 a.c1 a.to
 
-abbrev pub calls_forwards : Forwards → List Call
+abbrev pub calls_forwards : OctantArcs → List Call
 calls_forwards o = conic_call o.first ∷ conic_call o.second ∷ cubic_call o.circle ∷ []
 
-abbrev pub calls_backwards : Backwards → List Call
+abbrev pub calls_backwards : OctantArcs → List Call
 calls_backwards o = cubic_call o.circle ∷ conic_call o.second ∷ conic_call o.first ∷ []
 
 abbrev pub calls_of : Corner → List Call

@@ -45,25 +45,20 @@ pub struct CubicArc {
     pub to: Point,
 }
 
-// An octant that is drawn forwards, from the flat side on, and one that is drawn backwards.
+// What is drawn of an octant: forwards, from the flat side on, the conics and then the cubic; backwards the cubic, then the
+// second conic and the first.
 #[derive(Clone, Copy)]
-pub struct Forwards {
+pub struct OctantArcs {
     pub first: ConicArc,
     pub second: ConicArc,
     pub circle: CubicArc,
 }
 
-#[derive(Clone, Copy)]
-pub struct Backwards {
-    pub circle: CubicArc,
-    pub second: ConicArc,
-    pub first: ConicArc,
-}
-
+// Two octants, one drawn forwards and then one drawn backwards.
 #[derive(Clone, Copy)]
 pub struct RoundCorner {
-    pub forwards: Forwards,
-    pub backwards: Backwards,
+    pub forwards: OctantArcs,
+    pub backwards: OctantArcs,
 }
 
 #[derive(Clone, Copy)]
@@ -72,6 +67,8 @@ pub enum Corner {
     Round(RoundCorner),
 }
 
+// Four fields, not an array: the definitions have an array as a list of any length, and each law of a drawn outline
+// (`drawn-sizes` in contour) would ask for its length.
 #[derive(Clone, Copy)]
 pub struct Corners {
     pub first: Corner,
@@ -87,6 +84,7 @@ pub struct Outline {
     pub corners: Corners,
 }
 
+#[tactic(auto, unfolding(crate::specs::Corners::curves_of))]
 fn solve(top: Octant, right: Octant) -> BothCurves
     ensures { (result.top ≡ curves_of top) × (result.right ≡ curves_of right) }
 {
@@ -116,6 +114,7 @@ fn placement(param: Octant, offset: Point, scale: Point, flip: bool) -> Placemen
     }
 }
 
+#[tactic(auto, unfolding(crate::specs::Corners::placed_conic))]
 fn conic_arc(place: Placement, ctrl: Point, to: Point, weight: f32) -> ConicArc
     ensures { conic_call result ≡ placed_conic place ctrl to weight }
 {
@@ -126,6 +125,7 @@ fn conic_arc(place: Placement, ctrl: Point, to: Point, weight: f32) -> ConicArc
     }
 }
 
+#[tactic(auto, unfolding(crate::specs::Corners::placed_cubic))]
 fn cubic_arc(place: Placement, c0: Point, c1: Point, to: Point) -> CubicArc
     ensures { cubic_call result ≡ placed_cubic place c0 c1 to }
 {
@@ -136,31 +136,34 @@ fn cubic_arc(place: Placement, c0: Point, c1: Point, to: Point) -> CubicArc
     }
 }
 
-fn place_forwards(place: Placement, curves: Curves) -> Forwards
+#[tactic(auto, unfolding(crate::specs::Corners::forwards_calls))]
+fn place_forwards(place: Placement, curves: Curves) -> OctantArcs
     ensures { calls_forwards result ≡ forwards_calls place curves }
 {
     let circle = curves.circle;
     let se = curves.conics;
-    Forwards {
+    OctantArcs {
         first: conic_arc(place, se.c1, se.h, se.weight1),
         second: conic_arc(place, se.c2, se.j, se.weight2),
         circle: cubic_arc(place, circle[1], circle[2], circle[3]),
     }
 }
 
-fn place_backwards(place: Placement, curves: Curves) -> Backwards
+#[tactic(auto, unfolding(crate::specs::Corners::backwards_calls))]
+fn place_backwards(place: Placement, curves: Curves) -> OctantArcs
     ensures { calls_backwards result ≡ backwards_calls place curves }
 {
     let circle = curves.circle;
     let se = curves.conics;
-    Backwards {
-        circle: cubic_arc(place, circle[2], circle[1], circle[0]),
-        second: conic_arc(place, se.c2, se.h, se.weight2),
+    OctantArcs {
         first: conic_arc(place, se.c1, se.a, se.weight1),
+        second: conic_arc(place, se.c2, se.h, se.weight2),
+        circle: cubic_arc(place, circle[2], circle[1], circle[0]),
     }
 }
 
 // Where the second line of a square corner goes.
+#[tactic(auto, unfolding(crate::specs::Corners::next_of))]
 fn next_point(param: Quadrant, reverse: bool) -> Point
     ensures { result ≡ next_of param reverse }
 {
@@ -178,6 +181,7 @@ fn next_point(param: Quadrant, reverse: bool) -> Point
         }
 }
 
+#[tactic(auto, unfolding(crate::specs::Corners::square_calls))]
 fn square_corner(param: Quadrant, reverse: bool, scale: Point) -> Corner
     ensures { calls_of result ≡ square_calls param reverse scale }
 {
@@ -188,6 +192,7 @@ fn square_corner(param: Quadrant, reverse: bool, scale: Point) -> Corner
 }
 
 // The octant that is drawn first goes forwards, the other backwards; the right one is flipped.
+#[tactic(auto, unfolding(crate::specs::Corners::solved_calls))]
 fn round_corner(param: Quadrant, top: Curves, right: Curves, reverse: bool, scale: Point) -> Corner
     ensures { calls_of result ≡ solved_calls param top right reverse scale }
 {
@@ -293,6 +298,7 @@ fn draw_round(p: Quadrant, q: Quadrant, r: Quadrant, s: Quadrant) -> Corners
 }
 
 // Each corner by itself.
+#[tactic(auto, unfolding(crate::specs::Corners::unequal_corners))]
 fn draw_apart(shape: RoundSuperellipse) -> Corners
     ensures { call_lists result ≡ unequal_corners shape }
 {
@@ -329,6 +335,7 @@ fn unequal_corners(shape: RoundSuperellipse) -> Corners
     )
 }
 
+#[tactic(auto, unfolding(crate::specs::Corners::corners_of, crate::specs::Corners::unequal_corners))]
 fn draw_corners(shape: RoundSuperellipse) -> Corners
     ensures { call_lists result ≡ corners_of shape }
 {
@@ -338,6 +345,7 @@ fn draw_corners(shape: RoundSuperellipse) -> Corners
     unequal_corners(shape)
 }
 
+#[tactic(auto, unfolding(crate::specs::Corners::start_point))]
 fn start_point(tr: Quadrant) -> Point
     ensures { result ≡ start_point tr }
 {
@@ -349,6 +357,7 @@ fn start_point(tr: Quadrant) -> Point
     tr.offset + tr.signed_scale * side
 }
 
+#[tactic(auto, unfolding(crate::specs::Calls::outline_of))]
 pub fn draw(shape: RoundSuperellipse) -> Outline
     ensures { drawing_of result ≡ outline_of shape }
 {

@@ -11,6 +11,12 @@ ghost use Rattle.exponential.specs.Power.{pow_of};
 ghost use Rattle.trigonometry.specs.Sine.{sin_cos_of, tan_of};
 ghost use Rattle.trigonometry.specs.Arctangent.{atan2_of};
 
+// Beside document 01's numbers the functions of all crates for other languages answer these: a slice that is lent has the
+// wrong length, and there is nothing to answer.
+pub const WRONG_LENGTH: u32 = 100;
+
+pub const NONE: u32 = 101;
+
 pub fn shackletongue_narrow(x: f64) -> f32
     ensures { result ≡ narrow_of x }
 {

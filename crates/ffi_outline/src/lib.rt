@@ -10,14 +10,11 @@ ghost use Rattle.ffi_path.specs.Lent.{left};
 ghost use Rattle.ffi_outline.specs.Outlines.{add_of, needed, numbers_of, outline_need_of, conic_need_of, consistency_of};
 
 use calls::Call;
-use ffi_path::WRONG_LENGTH;
+use ffi::WRONG_LENGTH;
+use ffi_shape::{SHAPE_LENGTH, SIZES_LENGTH};
 use geometry::Point;
 use lowering::Written;
 use stream::Need;
-
-const SIZES_LENGTH: usize = 12;
-
-const SHAPE_LENGTH: usize = 89;
 
 const NEED_LENGTH: usize = 2;
 
@@ -98,8 +95,5 @@ pub fn shackletongue_is_consistent(sizes: &[f32], shape: &[f32]) -> u32
     if shape.len() != SHAPE_LENGTH {
         return WRONG_LENGTH;
     }
-    if inspection::is_consistent(ffi_shape::bounds_at(sizes), ffi_shape::shape_at(shape)) {
-        return 1;
-    }
-    0
+    u32::from(inspection::is_consistent(ffi_shape::bounds_at(sizes), ffi_shape::shape_at(shape)))
 }

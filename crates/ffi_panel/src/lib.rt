@@ -3,13 +3,14 @@
 
 #![tactic(auto)]
 
-ghost use Rattle.std.specs.Prelude.{◌≡◌, [], ◌∷◌, ◌+◌, ◌≤◌, length};
-ghost use Rattle.stream.specs.Stream.{put, floats_in};
+ghost use Rattle.std.specs.Prelude.{◌≡◌, length};
 ghost use Rattle.octant.specs.Octant.{point};
 ghost use Rattle.ffi_panel.specs.Asking.{answered, left, kind_number, record_floats, record_of, place_of_touch, places_of_touches};
 
+use ffi::{NONE, WRONG_LENGTH};
 use geometry::Point;
 use panel_file::{Button, Record};
+use stream::put_point;
 use touch::MOST_TOUCHES;
 
 // A record's place holds an offset and a kind; its floats are at most a button's.
@@ -20,31 +21,20 @@ const RECORD_FLOATS: usize = 12;
 // A touch's place holds an index, a count or an offset.
 const TOUCH_PLACE: usize = 1;
 
-const WRONG_LENGTH: u32 = 100;
-
-const NONE: u32 = 101;
-
-fn store_point(floats: &mut [f32], at: usize, p: Point)
-    requires { at + 2 ≤ length floats.old }
-    ensures { floats.new ≡ put floats.old at (floats_in (p ∷ [])) }
-{
-    floats[at] = p.x;
-    floats[at + 1] = p.y;
-}
-
 fn store_button(floats: &mut [f32], b: Button)
     requires { length floats.old ≡ 12 }
     ensures { floats.new ≡ record_floats (Record.Button b) floats.old }
 {
-    store_point(floats, 0, b.min);
-    store_point(floats, 2, b.max);
-    store_point(floats, 4, b.top_left);
-    store_point(floats, 6, b.top_right);
-    store_point(floats, 8, b.bottom_left);
-    store_point(floats, 10, b.bottom_right);
+    put_point(floats, 0, b.min);
+    put_point(floats, 2, b.max);
+    put_point(floats, 4, b.top_left);
+    put_point(floats, 6, b.top_right);
+    put_point(floats, 8, b.bottom_left);
+    put_point(floats, 10, b.bottom_right);
 }
 
-// The number of the record's kind.
+// The number of the record's kind, as C reads it (include/shackletongue.h).
+#[tactic(auto, unfolding(crate::specs::Asking::kind_number, crate::specs::Asking::points_of, crate::specs::Asking::record_floats))]
 fn store_record(floats: &mut [f32], record: Record) -> u64
     requires { length floats.old ≡ 12 }
     ensures value { result ≡ kind_number «record» }
@@ -56,7 +46,7 @@ fn store_record(floats: &mut [f32], record: Record) -> u64
             1
         }
         Record::Touch(p) => {
-            store_point(floats, 0, p);
+            put_point(floats, 0, p);
             2
         }
     }

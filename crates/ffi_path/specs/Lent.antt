@@ -1,6 +1,6 @@
 -- A building call on a record that stands in lent numbers: three whole numbers, which are the verb count, the point count and a joint word, and four
 -- floats, which are the contour's start and the pen. Definitions only.
-use Rattle.std.specs.Prelude.{Bool, cond, ◌&&◌, List, [], ◌∷◌, ℕ, length, get_or, eqb, Float, Option, Some, None}
+use Rattle.std.specs.Prelude.{◌≡◌, Bool, cond, ◌&&◌, List, [], ◌∷◌, ℕ, length, get_or, eqb, Float, Option, Some, None}
 use Rattle.std.specs.Float.{nan}
 use Rattle.geometry.specs.declared.Point.{Point}
 use Rattle.stream.specs.declared.Builder.{Builder}
@@ -32,6 +32,9 @@ places_of b = b.start.x ∷ b.start.y ∷ b.pen.x ∷ b.pen.y ∷ []
 -- slices of these lengths hold a record
 unfoldable pub fitting : ℕ → ℕ → Bool
 fitting counts places = eqb counts 3 && eqb places 4
+
+abbrev pub HoldsRecord : List ℕ → List Float → Type 0
+HoldsRecord counts places = (length counts ≡ 3) × (length places ≡ 4)
 
 -- the record in slices, where they hold one
 unfoldable pub record_in : List ℕ → List Float → Option Builder

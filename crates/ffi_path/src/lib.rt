@@ -5,16 +5,15 @@
 
 #![tactic(auto)]
 
-ghost use Rattle.std.specs.Prelude.{◌≡◌, List, ℕ, Float, length};
+ghost use Rattle.std.specs.Prelude.{◌≡◌, List, ℕ, Float};
 ghost use Rattle.calls.specs.Calls.{conic_outcome_of};
-ghost use Rattle.ffi_path.specs.Lent.{point, record_in, counts_of, places_of, left, left_by, lent_step};
+ghost use Rattle.ffi_path.specs.Lent.{point, HoldsRecord, record_in, counts_of, places_of, left, left_by, lent_step};
 
 use calls::{BuildError, Call};
+use ffi::WRONG_LENGTH;
 use geometry::Point;
 use lowering::Written;
 use stream::Builder;
-
-pub const WRONG_LENGTH: u32 = 100;
 
 // The record in the lent numbers, where the slices have the lengths of one.
 pub fn load(counts: &[u64], places: &[f32]) -> Option<Builder>
@@ -41,7 +40,7 @@ pub fn load(counts: &[u64], places: &[f32]) -> Option<Builder>
 }
 
 fn store(counts: &mut [u64], places: &mut [f32], w: Written)
-    requires { (length counts.old ≡ 3) × (length places.old ≡ 4) }
+    requires { HoldsRecord counts.old places.old }
     ensures { (counts.new ≡ counts_of w.builder w.word) × (places.new ≡ places_of w.builder) }
 {
     let b = w.builder;
@@ -56,7 +55,7 @@ fn store(counts: &mut [u64], places: &mut [f32], w: Written)
 
 // The number of an answer. An accepted call's record and joint word go to the lent numbers.
 pub fn settle(counts: &mut [u64], places: &mut [f32], a: Result<Written, BuildError>) -> u32
-    requires { (length counts.old ≡ 3) × (length places.old ≡ 4) }
+    requires { HoldsRecord counts.old places.old }
     ensures { (vs : List ℕ) (fs : List Float) → left result counts.new places.new vs fs ≡ left_by (conic_outcome_of a vs fs) counts.old places.old }
 {
     match a {

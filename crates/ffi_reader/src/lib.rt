@@ -8,9 +8,10 @@ ghost use Rattle.reader.specs.Reading.{ok, item_of, answer_of};
 ghost use Rattle.reader.specs.Bounds.{bounds_answer};
 ghost use Rattle.ffi_reader.specs.Segments.{read, cursor_numbers, cursor_at, read_by, read_of, boxed, rect_floats, box_by, box_of};
 
-use ffi_path::WRONG_LENGTH;
+use ffi::{NONE, WRONG_LENGTH};
 use reader::{Cursor, ReadError, Rect, Segment};
 
+// The lengths that C lends (include/shackletongue.h).
 const CURSOR_LENGTH: usize = 3;
 
 const SEGMENT_LENGTH: usize = 6;
@@ -19,31 +20,29 @@ const RECT_LENGTH: usize = 4;
 
 const PLACE_LENGTH: usize = 1;
 
-const NONE: u32 = 101;
-
-// The points of a segment go to the first floats; its kind is returned.
+// The points of a segment go to the first floats; its kind is returned, a number because C reads it (include/shackletongue.h).
 fn store_segment(segment: &mut [f32], s: Segment) -> u64
     requires { length segment.old ≡ 6 }
     ensures { (d : Cursor) (cs : List ℕ) → read 0 (cursor_numbers d result) segment.new ≡ read_by (ok (item_of s d)) cs segment.old }
 {
     match s {
         Segment::Move(p) => {
-            ffi_shape::store_point(segment, 0, p);
+            stream::put_point(segment, 0, p);
             0
         }
         Segment::Line(p) => {
-            ffi_shape::store_point(segment, 0, p);
+            stream::put_point(segment, 0, p);
             1
         }
         Segment::Quad(p, q) => {
-            ffi_shape::store_point(segment, 0, p);
-            ffi_shape::store_point(segment, 2, q);
+            stream::put_point(segment, 0, p);
+            stream::put_point(segment, 2, q);
             2
         }
         Segment::Cubic(p, q, r) => {
-            ffi_shape::store_point(segment, 0, p);
-            ffi_shape::store_point(segment, 2, q);
-            ffi_shape::store_point(segment, 4, r);
+            stream::put_point(segment, 0, p);
+            stream::put_point(segment, 2, q);
+            stream::put_point(segment, 4, r);
             3
         }
         Segment::Close => 4,
@@ -60,6 +59,7 @@ fn store_cursor(cursor: &mut [u64], next: Cursor, kind: u64)
     cursor[2] = kind;
 }
 
+#[tactic(auto, unfolding(crate::specs::Segments::cursor_at))]
 fn cursor_at(cursor: &[u64]) -> Cursor
     requires { length cursor.now ≡ 3 }
     ensures { result ≡ cursor_at cursor.now }

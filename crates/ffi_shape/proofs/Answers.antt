@@ -1,10 +1,12 @@
 -- What the exported functions answer, case by case.
-use mathlib.Core.Path.{◌≡◌}
+use mathlib.Core.Path.{◌≡◌, refl}
+use mathlib.Core.Bool.{Bool, true, false, cond}
 use mathlib.Core.List.{List}
 use borrow.Author.Tests.{eq-eqb, ne_eqb}
 use lib.ListN.{length}
 use lib.Ieee.{Float}
 use Rattle.std.proofs.Common.{Result}
+use Rattle.std.specs.Int.{from_bool}
 use Rattle.shape.specs.declared.Bounds.{Bounds}
 use Rattle.shape.specs.declared.CornerRadii.{CornerRadii}
 use Rattle.shape.specs.Refusal.{outcome_of, new_of}
@@ -12,6 +14,11 @@ use Rattle.shape.specs.declared.RoundSuperellipse.{RoundSuperellipse}
 use Rattle.shape.specs.declared.ShapeError.{ShapeError}
 use Rattle.ffi_shape.specs.Layout.{bounds_at, radii_at}
 use Rattle.ffi_shape.specs.Making.{left, left_by, make_of}
+
+-- the number of a bool
+pub from_bool-is : (b : Bool) → from_bool b ≡ cond b 1 0
+from_bool-is true = refl
+from_bool-is false = refl
 
 module _ (sizes old : List Float) where
   pub wrong_sizes : (length sizes ≡ 12 → ⊥) → left 100 old ≡ make_of sizes old

@@ -1,34 +1,26 @@
--- Corners asked one after the other: what is left after k of n, and that all of them are the shape's answer.
+-- Corners asked one after the other, and that all of them are the shape's answer.
 use mathlib.Core.Path.{◌≡◌, refl, sym, ap, ◌∙◌}
 use mathlib.Core.Bool.{Bool, true, false, cond, ◌&&◌}
 use mathlib.Core.List.{List}
-use Prim.Native.Nat.{ℕ, suc, ◌+◌, ◌-◌, ◌*◌, ◌≤◌, ◌<◌}
-use native.Mathlib.Omega.{arith}
+use Prim.Native.Nat.{ℕ, zero, suc, ◌+◌, ◌*◌}
 use lib.ListN.{length, get_or}
 use lib.Ieee.{Float, nan, eq, ne}
+use Rattle.std.specs.List.{list_all, range_with_len}
+use Rattle.std.specs.Int.{from_bool}
 use Rattle.geometry.specs.declared.Point.{Point}
 use Rattle.octant.specs.Binary32 as binary32
 use Rattle.quadrant.specs.declared.Quadrant.{Quadrant}
 use Rattle.quadrant.specs.Quadrant.{square_corner}
 use Rattle.containment.specs.Contains.{round_contains, norm_contains, corner_contains_of, contains_of}
+use Rattle.ffi_shape.proofs.Answers.{from_bool-is}
 use Rattle.ffi_shape.specs.Layout.{quadrant_at, shape_at}
 use Rattle.ffi_shape.specs.Making.{corners_hold, holds_of}
 
-module _ (fs : List Float) (p : Point) (check : Bool) (n k : ℕ) where
-  -- the first of what is left
-  first : k < n → corners_hold fs p check (n - k) k ≡ (corner_contains_of (quadrant_at fs (22 * k)) p check && corners_hold fs p check (n - (k + 1)) (k + 1))
-  unfolding corners_hold
-  first h = let e : n - k ≡ suc (n - (k + 1)) = omega arith in ap (λ (m : ℕ). corners_hold fs p check m k) e
-
-  pub held : (r : Bool) → k < n → r ≡ corner_contains_of (quadrant_at fs (22 * k)) p check → r ≡ true → corners_hold fs p check (n - k) k ≡ corners_hold fs p check (n - (k + 1)) (k + 1)
-  held r h e t = first h ∙ ap (λ (b : Bool). b && corners_hold fs p check (n - (k + 1)) (k + 1)) (sym e ∙ t)
-
-  pub not-held : (r : Bool) → k < n → r ≡ corner_contains_of (quadrant_at fs (22 * k)) p check → r ≡ false → corners_hold fs p check (n - k) k ≡ false
-  not-held r h e t = first h ∙ ap (λ (b : Bool). b && corners_hold fs p check (n - (k + 1)) (k + 1)) (sym e ∙ t)
-
-  pub none_left : n ≤ k → corners_hold fs p check (n - k) k ≡ true
-  unfolding corners_hold
-  none_left h = let e : n - k ≡ 0 = omega arith in ap (λ (m : ℕ). corners_hold fs p check m k) e
+-- n corners from the k-th on, asked one by one
+pub asked : (fs : List Float) (p : Point) (check : Bool) (n k : ℕ) → list_all (λ i. corner_contains_of (quadrant_at fs (22 * i)) p check) (range_with_len k n) ≡ corners_hold fs p check n k
+unfolding corners_hold
+asked fs p check zero k = refl
+asked fs p check (suc n) k = ap (λ (b : Bool). corner_contains_of (quadrant_at fs (22 * k)) p check && b) (asked fs p check n (k + 1))
 
 and-true : (b : Bool) → (b && true) ≡ b
 and-true true = refl
@@ -55,6 +47,6 @@ unfolding norm_contains
 round-asked q c n s r eq es ef er = rw (sym (es ∙ ap square_corner eq), ef) er
 
 -- the number that is answered
-pub answered : (fs : List Float) (p : Point) (b r : Bool) (n : ℕ) → length fs ≡ 89 → n ≡ cond r 1 0 → r ≡ b → b ≡ contains_of (shape_at fs) p → n ≡ holds_of fs p
+pub answered : (fs : List Float) (p : Point) (b r : Bool) (n : ℕ) → length fs ≡ 89 → n ≡ from_bool r → r ≡ b → b ≡ contains_of (shape_at fs) p → n ≡ holds_of fs p
 unfolding holds_of
-answered fs p b r n el en er eb = rw (el, ← eb, ← er) en
+answered fs p b r n el en er eb = rw (el, ← eb, ← er) (en ∙ from_bool-is r)

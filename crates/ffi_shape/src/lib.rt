@@ -12,25 +12,17 @@ ghost use Rattle.stream.specs.Stream.{put};
 ghost use Rattle.ffi_shape.specs.Layout.{point_floats, octant_floats, quadrant_floats, shape_floats, point_at, octant_at, quadrant_at, shape_at, bounds_at, radii_at};
 ghost use Rattle.ffi_shape.specs.Making.{left, make_of, corners_hold, holds_of};
 
+use ffi::WRONG_LENGTH;
 use geometry::Point;
 use octant::Octant;
 use quadrant::Quadrant;
 use shape::{Bounds, CornerRadii, RoundSuperellipse};
+use stream::{point_at, put_point};
 
 // How many floats a shape is made of, and how many it is.
-const SIZES_LENGTH: usize = 12;
+pub const SIZES_LENGTH: usize = 12;
 
-const SHAPE_LENGTH: usize = 89;
-
-const WRONG_LENGTH: u32 = 100;
-
-pub fn store_point(floats: &mut [f32], at: usize, p: Point)
-    requires { at + 2 ≤ length floats.old }
-    ensures { floats.new ≡ put floats.old at (point_floats p) }
-{
-    floats[at] = p.x;
-    floats[at + 1] = p.y;
-}
+pub const SHAPE_LENGTH: usize = 89;
 
 fn store_octant(floats: &mut [f32], at: usize, o: Octant)
     requires { at + 9 ≤ length floats.old }
@@ -40,10 +32,10 @@ fn store_octant(floats: &mut [f32], at: usize, o: Octant)
         x: o.se_a,
         y: o.se_n,
     };
-    store_point(floats, at, o.offset);
-    store_point(floats, at + 2, curve);
-    store_point(floats, at + 4, o.circle_start);
-    store_point(floats, at + 6, o.circle_center);
+    put_point(floats, at, o.offset);
+    put_point(floats, at + 2, curve);
+    put_point(floats, at + 4, o.circle_start);
+    put_point(floats, at + 6, o.circle_center);
     floats[at + 8] = o.circle_max_angle;
 }
 
@@ -51,8 +43,8 @@ fn store_quadrant(floats: &mut [f32], at: usize, q: Quadrant)
     requires { at + 22 ≤ length floats.old }
     ensures { floats.new ≡ put floats.old at (quadrant_floats q) }
 {
-    store_point(floats, at, q.offset);
-    store_point(floats, at + 2, q.signed_scale);
+    put_point(floats, at, q.offset);
+    put_point(floats, at + 2, q.signed_scale);
     store_octant(floats, at + 4, q.top);
     store_octant(floats, at + 13, q.right);
 }
@@ -77,16 +69,7 @@ fn store_shape(floats: &mut [f32], s: RoundSuperellipse)
     floats[88] = flag(s.all_corners_same);
 }
 
-fn point_at(floats: &[f32], at: usize) -> Point
-    requires { at + 2 ≤ length floats.now }
-    ensures { result ≡ point_at floats.now at }
-{
-    Point {
-        x: floats[at],
-        y: floats[at + 1],
-    }
-}
-
+#[tactic(auto, unfolding(crate::specs::Layout::octant_at))]
 fn octant_at(floats: &[f32], at: usize) -> Octant
     requires { at + 9 ≤ length floats.now }
     ensures { result ≡ octant_at floats.now at }
@@ -101,6 +84,7 @@ fn octant_at(floats: &[f32], at: usize) -> Octant
     }
 }
 
+#[tactic(auto, unfolding(crate::specs::Layout::quadrant_at))]
 fn quadrant_at(floats: &[f32], at: usize) -> Quadrant
     requires { at + 22 ≤ length floats.now }
     ensures { result ≡ quadrant_at floats.now at }
@@ -113,6 +97,7 @@ fn quadrant_at(floats: &[f32], at: usize) -> Quadrant
     }
 }
 
+#[tactic(auto, unfolding(crate::specs::Layout::shape_at))]
 pub fn shape_at(shape: &[f32]) -> RoundSuperellipse
     requires { length shape.now ≡ 89 }
     ensures { result ≡ shape_at shape.now }
@@ -126,6 +111,9 @@ pub fn shape_at(shape: &[f32]) -> RoundSuperellipse
     }
 }
 
+// The floats of a line have no length that was tested, and one that is missing is a NaN: they are read by operands' `bounds`
+// and `radii`.
+#[tactic(auto, unfolding(crate::specs::Layout::bounds_at))]
 pub fn bounds_at(sizes: &[f32]) -> Bounds
     requires { length sizes.now ≡ 12 }
     ensures { result ≡ bounds_at sizes.now }
@@ -136,6 +124,7 @@ pub fn bounds_at(sizes: &[f32]) -> Bounds
     }
 }
 
+#[tactic(auto, unfolding(crate::specs::Layout::radii_at))]
 fn radii_at(sizes: &[f32]) -> CornerRadii
     requires { length sizes.now ≡ 12 }
     ensures { result ≡ radii_at sizes.now }
@@ -187,6 +176,7 @@ fn norm_holds(shape: &[f32], at: usize, x: f32, y: f32) -> bool
 }
 
 // Whether the corner at `at` holds the point, or is not asked: it is not in its quadrant.
+#[tactic(auto, unfolding(containment::specs::Contains::corner_contains_of, crate::specs::Layout::quadrant_at))]
 fn corner_holds(shape: &[f32], at: usize, p: Point) -> bool
     requires { at + 22 ≤ length shape.now }
     ensures { result ≡ corner_contains_of (quadrant_at shape.now at) p true }
@@ -205,17 +195,12 @@ fn corners_hold(shape: &[f32], p: Point) -> bool
     requires { length shape.now ≡ 89 }
     ensures { result ≡ corners_hold shape.now p true 4 0 }
 {
-    for k in 0..4 {
-        if corner_holds(shape, 22 * k, p) {
-            continue;
-        }
-        return false;
-    }
-    true
+    (0..4).all(|k| corner_holds(shape, 22 * k, p))
 }
 
 // Whether the first corner, a round one, holds a point in its own space. The right octant is read only where the top one
 // holds the point.
+#[tactic(auto, unfolding(crate::specs::Layout::quadrant_at, containment::specs::Contains::round_contains))]
 fn octants_hold(shape: &[f32], n: Point) -> bool
     requires { length shape.now ≡ 89 }
     ensures { result ≡ round_contains (quadrant_at shape.now 0) n }
@@ -242,12 +227,6 @@ fn same_holds(shape: &[f32], p: Point) -> bool
     octants_hold(shape, n)
 }
 
-fn number(b: bool) -> u32
-    ensures { result ≡ cond b 1 0 }
-{
-    u32::from(b)
-}
-
 // 1 where the shape contains the point, 0 where not.
 pub fn shackletongue_contains(shape: &[f32], x: f32, y: f32) -> u32
     ensures { result ≡ holds_of shape.now (point x y) }
@@ -256,7 +235,7 @@ pub fn shackletongue_contains(shape: &[f32], x: f32, y: f32) -> u32
         return WRONG_LENGTH;
     }
     if shape[88] == 0.0 {
-        return number(corners_hold(shape, Point { x, y }));
+        return u32::from(corners_hold(shape, Point { x, y }));
     }
-    number(same_holds(shape, Point { x, y }))
+    u32::from(same_holds(shape, Point { x, y }))
 }

@@ -11,6 +11,10 @@ use Rattle.items.specs.declared.BadLine.{BadLine}
 use Rattle.items.specs.declared.Item.{Item}
 use Rattle.items.specs.declared.Item.TheVariants.{Buffers, Build, Outline, Record, Raw, Verbs, Floats, At, Box, Contains}
 
+-- what is told of a line that asks for nothing that there is
+abbrev pub bad_line_text : List ℕ
+bad_line_text = 98 ∷ 97 ∷ 100 ∷ 32 ∷ 108 ∷ 105 ∷ 110 ∷ 101 ∷ []  -- `bad line`
+
 -- ---- the names, in ASCII
 
 abbrev pub buffers_text : List ℕ

@@ -4,7 +4,7 @@
 
 ghost use Rattle.std.specs.Prelude.{◌≡◌, cond, Some, None};
 ghost use Rattle.text.specs.Words.{after_word};
-ghost use Rattle.items.specs.Items.{counts_of, has_words, of_counts, of_record, of_two, of_four, of_floats, of_shape, of_name, has_counts, of_words, item_of, from_floats};
+ghost use Rattle.items.specs.Items.{bad_line_text, counts_of, has_words, of_counts, of_record, of_two, of_four, of_floats, of_shape, of_name, has_counts, of_words, item_of, from_floats};
 ghost use Rattle.operands.specs.Operands.{operands_of};
 
 use geometry::Point;
@@ -34,6 +34,8 @@ pub enum Item {
 pub struct BadLine;
 
 impl fmt::Display for BadLine {
+    ghost output = { λ _. Some bad_line_text };
+
     fn fmt<W: fmt::Write>(&self, f: &mut fmt::Formatter<W>) -> fmt::Result {
         f.write_str("bad line")
     }

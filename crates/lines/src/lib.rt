@@ -3,16 +3,27 @@
 
 #![tactic(auto)]
 
-ghost use Rattle.std.specs.Prelude.{◌≡◌, ◌≤◌, length, IfOk, IfSome};
-ghost use Rattle.lines.specs.Lines.{fresh};
+ghost use Rattle.std.specs.Prelude.{◌≡◌, ◌≤◌, length, IfOk, IfSome, Some};
+ghost use Rattle.lines.specs.Lines.{fresh, too_long_text};
 
-use std::io;
+use std::error::Error;
 use std::io::Read;
+use std::{fmt, io};
 use text::Class;
 
 // A line that there is no room for.
-#[derive(Clone, Copy)]
+#[derive(Clone, Copy, Debug, PartialEq, Eq)]
 pub struct TooLong;
+
+impl fmt::Display for TooLong {
+    ghost output = { λ _. Some too_long_text };
+
+    fn fmt<W: fmt::Write>(&self, f: &mut fmt::Formatter<W>) -> fmt::Result {
+        f.write_str("the line is too long")
+    }
+}
+
+impl Error for TooLong {}
 
 // The part of the piece that is still to be taken, how many bytes of the line are held, none where it is
 // too long, and whether the input has ended.

@@ -14,7 +14,7 @@ ghost use Rattle.outline.specs.Step.{step};
 
 use calls::BuildError;
 use conic::Conic;
-use corners::{Backwards, ConicArc, Corner, Corners, Forwards, Outline};
+use corners::{ConicArc, Corner, Corners, OctantArcs, Outline};
 use geometry::Point;
 use shape::RoundSuperellipse;
 use stream::{Builder, Element, Need};
@@ -57,7 +57,7 @@ fn push_conic(b: Builder, verbs: &mut [u8], points: &mut [f32], arc: ConicArc) -
 }
 
 // An octant, a corner and an outline likewise.
-fn push_forwards(b: Builder, verbs: &mut [u8], points: &mut [f32], o: Forwards) -> Builder
+fn push_forwards(b: Builder, verbs: &mut [u8], points: &mut [f32], o: OctantArcs) -> Builder
     requires { RoomAlong (state b verbs.old points.old) (calls_forwards o) }
     ensures { state result verbs.new points.new ≡ push_calls (state b verbs.old points.old) (calls_forwards o) }
 {
@@ -71,7 +71,7 @@ fn push_forwards(b: Builder, verbs: &mut [u8], points: &mut [f32], o: Forwards) 
     )
 }
 
-fn push_backwards(b: Builder, verbs: &mut [u8], points: &mut [f32], o: Backwards) -> Builder
+fn push_backwards(b: Builder, verbs: &mut [u8], points: &mut [f32], o: OctantArcs) -> Builder
     requires { RoomAlong (state b verbs.old points.old) (calls_backwards o) }
     ensures { state result verbs.new points.new ≡ push_calls (state b verbs.old points.old) (calls_backwards o) }
 {

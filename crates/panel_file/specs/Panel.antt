@@ -31,6 +31,13 @@ header = 4
 unfoldable pub kind_of : ℕ → Result Kind UnknownKind
 kind_of n = cond (eqb n 1) (Ok button) (cond (eqb n 2) (Ok touch) (Err (record { number = n })))
 
+-- what is told of a number that is no kind's, before the number, and of a broken file, before the offset
+abbrev pub no_kind_text : List ℕ
+no_kind_text = 110 ∷ 111 ∷ 32 ∷ 114 ∷ 101 ∷ 99 ∷ 111 ∷ 114 ∷ 100 ∷ 32 ∷ 104 ∷ 97 ∷ 115 ∷ 32 ∷ 116 ∷ 104 ∷ 101 ∷ 32 ∷ 107 ∷ 105 ∷ 110 ∷ 100 ∷ 32 ∷ []  -- `no record has the kind `
+
+abbrev pub broken_text : List ℕ
+broken_text = 116 ∷ 104 ∷ 101 ∷ 32 ∷ 112 ∷ 97 ∷ 110 ∷ 101 ∷ 108 ∷ 32 ∷ 102 ∷ 105 ∷ 108 ∷ 101 ∷ 32 ∷ 105 ∷ 115 ∷ 32 ∷ 98 ∷ 114 ∷ 111 ∷ 107 ∷ 101 ∷ 110 ∷ 32 ∷ 97 ∷ 116 ∷ 32 ∷ []  -- `the panel file is broken at `
+
 -- the length of a payload
 unfoldable pub payload_of : Kind → ℕ
 payload_of button = 48

@@ -3,9 +3,9 @@
 
 #![tactic(auto)]
 
-ghost use Rattle.std.specs.Prelude.{◌≡◌, ◌+◌, ◌<◌, ◌≤◌, length};
+ghost use Rattle.std.specs.Prelude.{◌≡◌, ◌++◌, ◌+◌, ◌<◌, ◌≤◌, length, decimal, Some};
 ghost use Rattle.panel_file.specs.Bytes.{u16_at, u32_at, f32_at, point_at};
-ghost use Rattle.panel_file.specs.Panel.{kind_of, payload_of, button_at, head_at, record_at, read_of, records_of, on_done, counts_of, counted_of, kind_of_record, checked_of};
+ghost use Rattle.panel_file.specs.Panel.{no_kind_text, broken_text, kind_of, payload_of, button_at, head_at, record_at, read_of, records_of, on_done, counts_of, counted_of, kind_of_record, checked_of};
 
 pub use file::{PanelFile, Records};
 use geometry::Point;
@@ -49,6 +49,8 @@ impl TryFrom<u16> for Kind {
 }
 
 impl fmt::Display for UnknownKind {
+    ghost output = { λ u. Some (no_kind_text ++ decimal u.number) };
+
     fn fmt<W: fmt::Write>(&self, f: &mut fmt::Formatter<W>) -> fmt::Result {
         write!(f, "no record has the kind {}", self.number)
     }
@@ -91,6 +93,8 @@ impl Broken {
 }
 
 impl fmt::Display for Broken {
+    ghost output = { λ b. Some (broken_text ++ decimal b.offset) };
+
     fn fmt<W: fmt::Write>(&self, f: &mut fmt::Formatter<W>) -> fmt::Result {
         write!(f, "the panel file is broken at {}", self.offset)
     }

@@ -1,6 +1,6 @@
 -- Reading a stream, one segment at a cursor or all of it. Each answer enum has here document 01's number and values for each of its cases.
 -- Definitions only.
-use Rattle.std.specs.Prelude.{◌≡◌, List, [], ◌∷◌, cond, ◌||◌, ℕ, zero, suc, ◌+◌, ◌-◌, ◌*◌, get_or, leb, ltb, Float, Result, Ok, Err}
+use Rattle.std.specs.Prelude.{◌≡◌, List, [], ◌∷◌, cond, ◌||◌, ℕ, zero, suc, ◌+◌, ◌-◌, ◌*◌, get_or, leb, ltb, Float, Result, Ok, Err, ◌++◌, decimal}
 use Rattle.std.proofs.Math.Seq.{slice}
 use Rattle.std.specs.Float.{nan}
 use Rattle.geometry.specs.declared.Point.{Point}
@@ -12,7 +12,7 @@ use Rattle.reader.specs.declared.Segment.TheVariants as segment
 use Rattle.reader.specs.declared.Cursor.{Cursor}
 use Rattle.reader.specs.declared.ReadError.{ReadError}
 use Rattle.reader.specs.declared.ReadError.TheVariants.{BadRecord, Malformed}
-use Rattle.stream.specs.Stream.{State, floats_of, point_count, bad_state}
+use Rattle.stream.specs.Stream.{State, floats_of, point_count, bad_state, bad_record_text}
 
 -- ---- answers
 
@@ -53,6 +53,17 @@ number_of (Malformed i) = 6
 abbrev pub refusal_of : ReadError → Refusal
 refusal_of (BadRecord b) = with_record (number_of (BadRecord b)) b
 refusal_of (Malformed i) = at_verb (number_of (Malformed i)) i
+
+abbrev pub unread_before : List ℕ
+unread_before = 118 ∷ 101 ∷ 114 ∷ 98 ∷ 32 ∷ []  -- `verb `
+
+abbrev pub unread_after : List ℕ
+unread_after = 32 ∷ 99 ∷ 97 ∷ 110 ∷ 110 ∷ 111 ∷ 116 ∷ 32 ∷ 98 ∷ 101 ∷ 32 ∷ 114 ∷ 101 ∷ 97 ∷ 100 ∷ []  -- ` cannot be read`
+
+-- what is told of a refusal
+abbrev pub refusal_text : ReadError → List ℕ
+refusal_text (BadRecord b) = bad_record_text
+refusal_text (Malformed i) = unread_before ++ decimal i ++ unread_after
 
 abbrev pub answer_of : Result (Segment × Cursor) ReadError → Answer Item
 answer_of (Ok x) = ok (item_of x.0 x.1)

@@ -3,12 +3,13 @@
 
 #![tactic(auto)]
 
-ghost use Rattle.std.specs.Prelude.{◌≡◌, ◌+◌, ◌-◌, ◌*◌, ◌≤◌, length};
+ghost use Rattle.std.specs.Prelude.{◌≡◌, ◌+◌, ◌-◌, ◌*◌, ◌≤◌, length, Some};
 ghost use Rattle.stream.specs.Stream.{byte_of, point_count, state};
-ghost use Rattle.reader.specs.Reading.{point_at, element_at, segment_of, number_of, read_at, answer_of, part_at, floats_at};
+ghost use Rattle.reader.specs.Reading.{element_at, segment_of, number_of, refusal_text, read_at, answer_of, part_at, floats_at};
 ghost use Rattle.reader.specs.Bounds.{widen_of, include_of, include_segment, bounds_of, bounds_answer};
 
 use geometry::Point;
+use std::error::Error;
 use std::fmt;
 use stream::{Builder, Verb};
 
@@ -30,7 +31,7 @@ pub enum Segment {
 }
 
 // The refusal of a reading.
-#[derive(Clone, Copy)]
+#[derive(Clone, Copy, Debug)]
 pub enum ReadError {
     // Cause 1, with the same record: it does not suit the buffers.
     BadRecord(Builder),
@@ -51,6 +52,8 @@ impl ReadError {
 }
 
 impl fmt::Display for ReadError {
+    ghost output = { λ e. Some (refusal_text e) };
+
     fn fmt<W: fmt::Write>(&self, f: &mut fmt::Formatter<W>) -> fmt::Result {
         match self {
             ReadError::BadRecord(_) => f.write_str("the record does not suit the buffers"),
@@ -59,16 +62,7 @@ impl fmt::Display for ReadError {
     }
 }
 
-fn point_at(points: &[f32], at: usize) -> Point
-    requires { 2 * at + 2 ≤ length points.now }
-    ensures { result ≡ point_at points.now at }
-{
-    let i = 2 * at;
-    Point {
-        x: points[i],
-        y: points[i + 1],
-    }
-}
+impl Error for ReadError {}
 
 #[tactic(auto, unfolding(stream::specs::Stream::point_count, crate::specs::Reading::element_at))]
 fn segment_at(verb: Verb, points: &[f32], at: usize) -> Segment
@@ -76,13 +70,16 @@ fn segment_at(verb: Verb, points: &[f32], at: usize) -> Segment
     ensures { result ≡ segment_of (element_at (byte_of verb) points.now at) }
 {
     match verb {
-        Verb::Move => Segment::Move(point_at(points, at)),
-        Verb::Line => Segment::Line(point_at(points, at)),
-        Verb::Quad => Segment::Quad(point_at(points, at), point_at(points, at + 1)),
+        Verb::Move => Segment::Move(stream::point_at(points, 2 * at)),
+        Verb::Line => Segment::Line(stream::point_at(points, 2 * at)),
+        Verb::Quad => Segment::Quad(
+            stream::point_at(points, 2 * at),
+            stream::point_at(points, 2 * (at + 1)),
+        ),
         Verb::Cubic => Segment::Cubic(
-            point_at(points, at),
-            point_at(points, at + 1),
-            point_at(points, at + 2),
+            stream::point_at(points, 2 * at),
+            stream::point_at(points, 2 * (at + 1)),
+            stream::point_at(points, 2 * (at + 2)),
         ),
         Verb::Close => Segment::Close,
     }
@@ -142,6 +139,7 @@ pub struct Rect {
 }
 
 // The box of the points that were seen, if there were any, with one more.
+#[tactic(auto, unfolding(crate::specs::Bounds::widen_of))]
 fn widen(seen: Option<Rect>, p: Point) -> Option<Rect>
     ensures { result ≡ widen_of seen p }
 {
@@ -165,6 +163,7 @@ fn widen(seen: Option<Rect>, p: Point) -> Option<Rect>
 }
 
 // A point that is not finite is passed over.
+#[tactic(auto, unfolding(crate::specs::Bounds::include_of))]
 fn include(seen: Option<Rect>, p: Point) -> Option<Rect>
     ensures { result ≡ include_of seen p }
 {
@@ -174,6 +173,7 @@ fn include(seen: Option<Rect>, p: Point) -> Option<Rect>
     seen
 }
 
+#[tactic(auto, unfolding(crate::specs::Bounds::include_all, crate::specs::Bounds::include_segment))]
 fn include_segment(seen: Option<Rect>, s: Segment) -> Option<Rect>
     ensures { result ≡ include_segment seen s }
 {
@@ -196,6 +196,8 @@ pub fn bounds(b: Builder, verbs: &[u8], points: &[f32]) -> Result<Option<Rect>, 
     }
     let mut seen = None;
     let mut c = Cursor { verb: 0, point: 0 };
+    // The cursor is no index: it goes on by a verb and by that verb's points. The `let .. else` is document 01's, which
+    // fixes that the loop takes the reader's answer apart so and answers 6 otherwise.
     while c.verb < b.verbs {
         let Ok((segment, next)) = read(b, verbs, points, c) else {
             return Err(ReadError::Malformed(c.verb));

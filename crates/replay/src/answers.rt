@@ -13,23 +13,12 @@ pub fn write(rt: &impl Print, reply: Reply) -> io::Result<()> {
     rt.println(reply)
 }
 
-fn of_refusal(e: ReadError) -> Reply {
-    match e {
-        ReadError::BadRecord(_) => Reply::Refused(u64::from(e.number())),
-        ReadError::Malformed(v) => Reply::Malformed(v as u64),
-    }
-}
-
-pub fn write_refusal(rt: &impl Print, e: ReadError) -> io::Result<()> {
-    write(rt, of_refusal(e))
-}
-
 pub fn write_reading(rt: &impl Print, a: Result<(Segment, Cursor), ReadError>) -> io::Result<()> {
     write(
         rt,
         match a {
             Ok((s, next)) => Reply::Read(s, next),
-            Err(e) => of_refusal(e),
+            Err(e) => Reply::from(e),
         },
     )
 }
@@ -40,7 +29,7 @@ pub fn write_box(rt: &impl Print, a: Result<Option<Rect>, ReadError>) -> io::Res
         match a {
             Ok(Some(r)) => Reply::Box(r),
             Ok(None) => Reply::Empty,
-            Err(e) => of_refusal(e),
+            Err(e) => Reply::from(e),
         },
     )
 }

@@ -5,7 +5,7 @@ use geometry::Point;
 use items::{BadLine, Item};
 use lines::TooLong;
 use outline::BuildingCall;
-use reader::{Cursor, Segment};
+use reader::Cursor;
 use replies::Reply;
 use shape::{RoundSuperellipse, ShapeError};
 use std::io;
@@ -48,26 +48,6 @@ pub struct Session {
     line: u64,
 }
 
-// The segments from cursor (0, 0), and whether the stream ends behind them. A good record holds no
-// more verbs than are lent.
-fn write_segments(rt: &impl Print, b: Builder, verbs: &[u8], floats: &[f32]) -> io::Result<bool> {
-    let mut c = Cursor { verb: 0, point: 0 };
-    for _ in 0..=verbs.len() {
-        match reader::read(b, verbs, floats, c) {
-            Err(e) => {
-                answers::write_refusal(rt, e)?;
-                return Ok(false);
-            }
-            Ok((Segment::End, _)) => return Ok(true),
-            Ok((segment, next)) => {
-                answers::write(rt, Reply::Element(segment))?;
-                c = next;
-            }
-        }
-    }
-    Ok(true)
-}
-
 impl Session {
     pub fn new() -> Session {
         Session {
@@ -91,13 +71,7 @@ impl Session {
         let Some(floats) = self.floats.lent() else {
             return Ok(());
         };
-        if !write_segments(rt, b, verbs, floats)? {
-            return Ok(());
-        }
-        if is_list {
-            answers::write(rt, Reply::Record(b))?;
-        }
-        answers::write(rt, Reply::End)
+        replies::write_stream(rt, b, verbs, floats, is_list)
     }
 
     fn begin_list(&mut self, rt: &impl Print, v: usize, f: usize) -> Result<(), Refusal> {

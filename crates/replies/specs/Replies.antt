@@ -3,6 +3,8 @@ use Rattle.std.specs.Prelude.{ℕ, List, [], ◌∷◌, ◌++◌, decimal}
 use Rattle.geometry.specs.declared.Point.{Point}
 use Rattle.reader.specs.declared.Segment.{Segment}
 use Rattle.reader.specs.declared.Segment.TheVariants as segment
+use Rattle.reader.specs.declared.ReadError.{ReadError}
+use Rattle.reader.specs.declared.ReadError.TheVariants as read_error
 use Rattle.text.specs.Written.{hexadecimal_text, single_text}
 use Rattle.replies.specs.declared.Reply.{Reply}
 use Rattle.replies.specs.declared.Reply.TheVariants.{Element, Read, Record, End, Empty, Box, Done, Worded, Yes, No, Refused, Malformed, BadLine}
@@ -96,3 +98,8 @@ reply_text No = zero_text
 reply_text (Refused n) = refused_text ++ decimal n
 reply_text (Malformed v) = malformed_text ++ decimal v
 reply_text (BadLine n) = bad_text ++ decimal n
+
+-- the reply to a reading that is refused: a refusal 6 is told with its verb
+abbrev pub refused_reply : ReadError → Reply
+refused_reply (read_error.BadRecord b) = Refused 1
+refused_reply (read_error.Malformed i) = Malformed i

@@ -3,6 +3,7 @@
 #![tactic(auto)]
 
 mod placing;
+mod streams;
 
 ghost use Rattle.std.specs.Prelude.{Some};
 ghost use Rattle.replies.specs.Replies.{counts_text, point_text, segment_text, reply_text};
@@ -12,6 +13,7 @@ pub use placing::put;
 use reader::{Cursor, Rect, Segment};
 use std::fmt;
 use stream::Builder;
+pub use streams::write_stream;
 use text::{Hexadecimal, Spelled};
 
 #[derive(Drop)]
@@ -30,7 +32,7 @@ pub enum Reply {
     Yes,
     No,
     // A refusal's number, the verb of a refusal 6, and the number of a bad line. A refusal stays a number, as the
-    // line tells it: the errors of calls, reader and shape, which this crate need not know, each give theirs.
+    // line tells it: the errors of calls, reader and shape each give theirs.
     Refused(u64),
     Malformed(u64),
     BadLine(u64),

@@ -1,5 +1,5 @@
 -- What making a shape answers: document 01's causes 2, 3 and 4, the lower number first, or the shape. Definitions only.
-use Rattle.std.specs.Prelude.{ℕ, Bool, cond, not, ◌||◌, Float, Result, Ok, Err}
+use Rattle.std.specs.Prelude.{ℕ, List, [], ◌∷◌, Bool, cond, not, ◌||◌, Float, Result, Ok, Err}
 use Rattle.std.specs.Float.{binary32}
 use Rattle.std.specs.Float.Ieee.{of_bits, lt}
 use Rattle.std.specs.Float.Ieee.Scale.{finite}
@@ -56,6 +56,21 @@ unfoldable pub number_of : ShapeError → ℕ
 number_of BeyondLimit = 2
 number_of NegativeRadius = 3
 number_of Inverted = 4
+
+-- what is told of a refusal
+abbrev pub beyond_text : List ℕ
+beyond_text = 97 ∷ 32 ∷ 98 ∷ 111 ∷ 117 ∷ 110 ∷ 100 ∷ 32 ∷ 111 ∷ 114 ∷ 32 ∷ 97 ∷ 32 ∷ 114 ∷ 97 ∷ 100 ∷ 105 ∷ 117 ∷ 115 ∷ 32 ∷ 105 ∷ 115 ∷ 32 ∷ 110 ∷ 111 ∷ 116 ∷ 32 ∷ 102 ∷ 105 ∷ 110 ∷ 105 ∷ 116 ∷ 101 ∷ 44 ∷ 32 ∷ 111 ∷ 114 ∷ 32 ∷ 111 ∷ 118 ∷ 101 ∷ 114 ∷ 32 ∷ 49 ∷ 54 ∷ 51 ∷ 56 ∷ 52 ∷ 32 ∷ 105 ∷ 110 ∷ 32 ∷ 109 ∷ 97 ∷ 103 ∷ 110 ∷ 105 ∷ 116 ∷ 117 ∷ 100 ∷ 101 ∷ []  -- `a bound or a radius is not finite, or over 16384 in magnitude`
+
+abbrev pub negative_text : List ℕ
+negative_text = 97 ∷ 32 ∷ 114 ∷ 97 ∷ 100 ∷ 105 ∷ 117 ∷ 115 ∷ 32 ∷ 105 ∷ 115 ∷ 32 ∷ 98 ∷ 101 ∷ 108 ∷ 111 ∷ 119 ∷ 32 ∷ 122 ∷ 101 ∷ 114 ∷ 111 ∷ []  -- `a radius is below zero`
+
+abbrev pub inverted_text : List ℕ
+inverted_text = 109 ∷ 97 ∷ 120 ∷ 32 ∷ 105 ∷ 115 ∷ 32 ∷ 98 ∷ 101 ∷ 108 ∷ 111 ∷ 119 ∷ 32 ∷ 109 ∷ 105 ∷ 110 ∷ 32 ∷ 111 ∷ 110 ∷ 32 ∷ 97 ∷ 110 ∷ 32 ∷ 97 ∷ 120 ∷ 105 ∷ 115 ∷ []  -- `max is below min on an axis`
+
+abbrev pub refusal_text : ShapeError → List ℕ
+refusal_text BeyondLimit = beyond_text
+refusal_text NegativeRadius = negative_text
+refusal_text Inverted = inverted_text
 
 -- the answer as document 01 has it: the shape, or the cause's number
 unfoldable pub outcome_of : Result RoundSuperellipse ShapeError → Outcome

@@ -3,12 +3,12 @@
 
 #![tactic(auto)]
 
-ghost use Rattle.std.specs.Prelude.{◌≡◌, Bool, map};
+ghost use Rattle.std.specs.Prelude.{◌≡◌, Bool, map, Some};
 ghost use Rattle.geometry.specs.declared.Point.{Point};
 ghost use Rattle.octant.specs.Octant.{point};
 ghost use Rattle.quadrant.specs.Quadrant.{frame_of, solved_of};
 ghost use Rattle.shape.specs.Shape.{corners_in_order, all_same, one_quadrant, equal_shape, unequal_shape, shape_of};
-ghost use Rattle.shape.specs.Refusal.{any_corner, beyond_limit, point_beyond, radii_beyond, bounds_beyond, point_below, radii_below, inverted, number_of, outcome_of, new_of};
+ghost use Rattle.shape.specs.Refusal.{any_corner, beyond_limit, point_beyond, radii_beyond, bounds_beyond, point_below, radii_below, inverted, number_of, refusal_text, outcome_of, new_of};
 
 use geometry::Point;
 use quadrant::{Frame, Quadrant};
@@ -67,6 +67,8 @@ impl ShapeError {
 }
 
 impl fmt::Display for ShapeError {
+    ghost output = { λ e. Some (refusal_text e) };
+
     fn fmt<W: fmt::Write>(&self, f: &mut fmt::Formatter<W>) -> fmt::Result {
         f.write_str(match self {
             ShapeError::BeyondLimit =>

@@ -1,7 +1,7 @@
 -- A path in two lent buffers: a state is the record with the bytes and the floats lent. Elements are added behind the held ones, and what lies past
 -- them keeps what it had. Definitions only.
-use Rattle.std.specs.Prelude.{List, [], ◌∷◌, ◌++◌, Bool, ◌&&◌, ◌||◌, ℕ, zero, suc, ◌+◌, ◌*◌, ◌/◌, ◌≤◌, length, take, drop, leb, ltb, eqb, Float, Result, Ok, Err}
-use Rattle.std.specs.Float.{binary32}
+use Rattle.std.specs.Prelude.{List, [], ◌∷◌, ◌++◌, Bool, ◌&&◌, ◌||◌, ℕ, zero, suc, ◌+◌, ◌*◌, ◌/◌, ◌^◌, ◌<◌, ◌≤◌, length, get_or, take, drop, leb, ltb, eqb, Float, Result, Ok, Err}
+use Rattle.std.specs.Float.{binary32, nan}
 use Rattle.std.specs.Float.Ieee.{of_bits}
 use Rattle.geometry.specs.declared.Point.{Point}
 use Rattle.stream.specs.declared.Builder.{Builder}
@@ -37,6 +37,10 @@ points_of Close = []
 abbrev pub floats_in : List Point → List Float
 floats_in [] = []
 floats_in (p ∷ ps) = p.x ∷ p.y ∷ floats_in ps
+
+-- the point in the floats from index i on
+abbrev pub point_in : List Float → ℕ → Point
+point_in fs i = record { x = get_or fs i nan; y = get_or fs (i + 1) nan }
 
 abbrev pub floats_of : Element → List Float
 floats_of k = floats_in (points_of k)
@@ -82,6 +86,10 @@ verb_in (suc (suc (suc zero))) = Ok verb.Cubic
 verb_in (suc (suc (suc (suc zero)))) = Ok verb.Close
 verb_in (suc (suc (suc (suc (suc n))))) = Err (record { byte = suc (suc (suc (suc (suc n)))) })
 
+-- what is told of a byte that is no verb's, before the byte
+abbrev pub no_verb_text : List ℕ
+no_verb_text = 110 ∷ 111 ∷ 32 ∷ 118 ∷ 101 ∷ 114 ∷ 98 ∷ 32 ∷ 104 ∷ 97 ∷ 115 ∷ 32 ∷ 116 ∷ 104 ∷ 101 ∷ 32 ∷ 98 ∷ 121 ∷ 116 ∷ 101 ∷ 32 ∷ []  -- `no verb has the byte `
+
 -- ---- the record
 
 -- (0, 0)
@@ -98,12 +106,23 @@ is_empty b = eqb b.verbs 0
 unfoldable pub bad_record : Builder → ℕ → ℕ → Bool
 bad_record b vn fn = ltb vn b.verbs || ltb (fn / 2) b.points || (eqb b.verbs 0 && ltb 0 b.points)
 
+-- what is told of it
+abbrev pub bad_record_text : List ℕ
+bad_record_text = 116 ∷ 104 ∷ 101 ∷ 32 ∷ 114 ∷ 101 ∷ 99 ∷ 111 ∷ 114 ∷ 100 ∷ 32 ∷ 100 ∷ 111 ∷ 101 ∷ 115 ∷ 32 ∷ 110 ∷ 111 ∷ 116 ∷ 32 ∷ 115 ∷ 117 ∷ 105 ∷ 116 ∷ 32 ∷ 116 ∷ 104 ∷ 101 ∷ 32 ∷ 98 ∷ 117 ∷ 102 ∷ 102 ∷ 101 ∷ 114 ∷ 115 ∷ []  -- `the record does not suit the buffers`
+
 -- a verb per place, a point per whole pair of floats
 unfoldable pub has_room : Builder → ℕ → ℕ → Need → Bool
 has_room b vn fn n = leb (b.verbs + n.verbs) vn && leb (b.points + n.points) (fn / 2)
 
 abbrev pub need_of : List Element → Need
 need_of ks = record { verbs = length ks; points = sizes_of ks }
+
+-- two needs together, and that both sums fit
+abbrev pub sum_of : Need → Need → Need
+sum_of n m = record { verbs = n.verbs + m.verbs; points = n.points + m.points }
+
+abbrev pub CanSum : Need → Need → Type 0
+CanSum n m = (n.verbs + m.verbs < 2 ^ 64) × (n.points + m.points < 2 ^ 64)
 
 -- where an element leaves the contour's start, which was at s, and the pen
 abbrev pub start_of : Point → Element → Point

@@ -3,10 +3,13 @@
 
 #![tactic(auto)]
 
-ghost use Rattle.std.specs.Prelude.{◌≡◌, ◌∷◌, [], ◌+◌, ◌*◌, ◌^◌, ◌<◌, ◌≤◌, length};
-ghost use Rattle.stream.specs.Stream.{put, verb_in, byte_of, verb_of, size_of, floats_of, point_count, fresh_builder, is_empty, bad_record, has_room, advance_of, state, push};
+ghost use Rattle.std.specs.Prelude.{◌≡◌, ◌∷◌, [], ◌++◌, ◌+◌, ◌*◌, ◌^◌, ◌<◌, ◌≤◌, length, Some, decimal};
+ghost use Rattle.stream.specs.Stream.{put, verb_in, no_verb_text, byte_of, verb_of, size_of, floats_in, floats_of, point_in, point_count, CanSum, sum_of, fresh_builder, is_empty, bad_record, has_room, advance_of, state, push};
 
 use geometry::Point;
+use std::error::Error;
+use std::fmt;
+use std::ops::Add;
 
 // How much of the buffers is held, the contour's start and the pen. Start and pen mean nothing while
 // no verb is held. The counts stand apart: side by side they would be read as one, and the processor waits where
@@ -17,6 +20,16 @@ pub struct Builder {
     pub start: Point,
     pub points: usize,
     pub pen: Point,
+}
+
+// The counts alone: a point has no form for a debugger.
+impl fmt::Debug for Builder {
+    fn fmt<W: fmt::Write>(&self, f: &mut fmt::Formatter<W>) -> fmt::Result {
+        f.debug_struct("Builder")
+            .field("verbs", &self.verbs)
+            .field("points", &self.points)
+            .finish_non_exhaustive()
+    }
 }
 
 // The byte of each element in the buffer of verbs: 0 to 4, in this order.
@@ -30,10 +43,20 @@ pub enum Verb {
 }
 
 // A byte over 4, which is no verb.
-#[derive(Clone, Copy, PartialEq, Eq)]
+#[derive(Clone, Copy, Debug, PartialEq, Eq)]
 pub struct UnknownVerb {
     pub byte: u8,
 }
+
+impl fmt::Display for UnknownVerb {
+    ghost output = { λ u. Some (no_verb_text ++ decimal u.byte) };
+
+    fn fmt<W: fmt::Write>(&self, f: &mut fmt::Formatter<W>) -> fmt::Result {
+        write!(f, "no verb has the byte {}", self.byte)
+    }
+}
+
+impl Error for UnknownVerb {}
 
 impl TryFrom<u8> for Verb {
     type Error = UnknownVerb;
@@ -80,6 +103,14 @@ impl Verb {
     }
 }
 
+// How many points the verb of a byte consumes: a byte that is no verb's consumes none.
+#[tactic(auto, unfolding(crate::specs::Stream::point_count, crate::specs::Stream::verb_in))]
+pub fn point_count(verb: u8) -> usize
+    ensures { result ≡ point_count verb }
+{
+    Verb::try_from(verb).map_or(0, Verb::point_count)
+}
+
 // What a path is made of.
 #[derive(Clone, Copy)]
 pub enum Element {
@@ -110,6 +141,21 @@ pub struct Need {
     pub points: usize,
 }
 
+impl Add for Need {
+    type Output = Need;
+
+    ghost can_add = { CanSum };
+
+    ghost add_gives = { λ n m r. r ≡ sum_of n m };
+
+    fn add(self, m: Need) -> Need {
+        Need {
+            verbs: self.verbs + m.verbs,
+            points: self.points + m.points,
+        }
+    }
+}
+
 pub fn new() -> Builder
     ensures { result ≡ fresh_builder }
 {
@@ -129,6 +175,7 @@ pub fn is_empty(b: Builder) -> bool
 
 // Cause 1: the record does not suit buffers of these lengths. A division, since twice the point count
 // may overflow.
+#[tactic(auto, unfolding(crate::specs::Stream::bad_record))]
 pub fn bad_record(b: Builder, verbs: usize, floats: usize) -> bool
     ensures { result ≡ bad_record b verbs floats }
 {
@@ -162,6 +209,7 @@ pub fn has_room(b: Builder, verbs: usize, floats: usize, need: Need) -> bool
 }
 
 // The record after one element more.
+#[tactic(auto, unfolding(crate::specs::Stream::advance_of))]
 fn advance(b: Builder, e: Element) -> Builder
     requires { (b.verbs + 1 < 2 ^ 64) × (b.points + 3 < 2 ^ 64) }
     ensures { result ≡ advance_of b e }
@@ -203,13 +251,23 @@ fn advance(b: Builder, e: Element) -> Builder
     }
 }
 
-fn put_point(points: &mut [f32], at: usize, p: Point)
-    requires { 2 * at + 2 ≤ length points.old }
-    ensures { points.new ≡ put points.old (2 * at) (p.x ∷ p.y ∷ []) }
+// A point to the floats from `at` on, and the point that stands there.
+pub fn put_point(floats: &mut [f32], at: usize, p: Point)
+    requires { at + 2 ≤ length floats.old }
+    ensures { floats.new ≡ put floats.old at (floats_in (p ∷ [])) }
 {
-    let i = 2 * at;
-    points[i] = p.x;
-    points[i + 1] = p.y;
+    floats[at] = p.x;
+    floats[at + 1] = p.y;
+}
+
+pub fn point_at(floats: &[f32], at: usize) -> Point
+    requires { at + 2 ≤ length floats.now }
+    ensures { result ≡ point_in floats.now at }
+{
+    Point {
+        x: floats[at],
+        y: floats[at + 1],
+    }
 }
 
 // The points of an element from point `at` on.
@@ -217,17 +275,18 @@ fn put_points(points: &mut [f32], at: usize, e: Element)
     requires { 2 * (at + size_of e) ≤ length points.old }
     ensures { points.new ≡ put points.old (2 * at) (floats_of e) }
 {
+    let i = 2 * at;
     match e {
-        Element::Move(p) => put_point(points, at, p),
-        Element::Line(p) => put_point(points, at, p),
+        Element::Move(p) => put_point(points, i, p),
+        Element::Line(p) => put_point(points, i, p),
         Element::Quad(c, p) => {
-            put_point(points, at, c);
-            put_point(points, at + 1, p);
+            put_point(points, i, c);
+            put_point(points, i + 2, p);
         }
         Element::Cubic(c0, c1, p) => {
-            put_point(points, at, c0);
-            put_point(points, at + 1, c1);
-            put_point(points, at + 2, p);
+            put_point(points, i, c0);
+            put_point(points, i + 2, c1);
+            put_point(points, i + 4, p);
         }
         Element::Close => {}
     }

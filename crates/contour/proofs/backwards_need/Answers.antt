@@ -1,27 +1,18 @@
-use mathlib.Core.Path.{refl}
-use mathlib.Core.List.{◌∷◌, []}
-use Prim.Native.Nat.{◌+◌}
 use native.Mathlib.Omega.{arith}
-use Rattle.corners.specs.Calls.{conic_call, cubic_call}
 use Rattle.contour.proofs.Passing.{passes_cubic, passes-sum, passes-few}
 use Rattle.contour.proofs.backwards_need.Goals as goal
 
-pub overflow_add-result : goal.overflow_add-result
-overflow_add-result c = omega (arith, passes-few c.conic_need-n1.ensures, passes-few c.conic_need-n2.ensures)
+pub add-requires : goal.add-requires
+add-requires c = let n = passes-few c.conic_need-n1.ensures in (omega arith, omega arith)
 
-pub overflow_add-result-2 : goal.overflow_add-result-2
-overflow_add-result-2 c = omega (arith, passes-few c.conic_need-n1.ensures, passes-few c.conic_need-n2.ensures)
-
-pub overflow_add-result-3 : goal.overflow_add-result-3
-overflow_add-result-3 c = omega (arith, passes-few c.conic_need-n1.ensures, passes-few c.conic_need-n2.ensures)
-
-pub overflow_add-result-4 : goal.overflow_add-result-4
-overflow_add-result-4 c = omega (arith, passes-few c.conic_need-n1.ensures, passes-few c.conic_need-n2.ensures)
+pub add-requires-2 : goal.add-requires-2
+add-requires-2 c =
+    let a = c.args in
+    let n = passes-few (passes-sum (passes_cubic a.pen a.o.circle.c0 a.o.circle.c1 a.o.circle.to) c.conic_need-n1.ensures c.add.ensures) in
+    let m = passes-few c.conic_need-n2.ensures in
+    (omega arith, omega arith)
 
 pub returns : goal.returns
 returns c =
     let a = c.args in
-    let n = c.conic_need-n1 in
-    let m = c.conic_need-n2 in
-    let rest = passes-sum _ _ _ (conic_call a.o.second ∷ []) _ _ _ (record { verbs = n.result.verbs + m.result.verbs; points = n.result.points + m.result.points }) n.ensures m.ensures refl refl in
-    passes-sum _ _ _ (cubic_call a.o.circle ∷ []) _ _ _ _ (passes_cubic a.pen a.o.circle.c0 a.o.circle.c1 a.o.circle.to) rest (omega arith) (omega arith)
+    passes-sum (passes-sum (passes_cubic a.pen a.o.circle.c0 a.o.circle.c1 a.o.circle.to) c.conic_need-n1.ensures c.add.ensures) c.conic_need-n2.ensures c.add-2.ensures

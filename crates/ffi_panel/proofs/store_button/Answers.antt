@@ -4,4 +4,4 @@ use Rattle.ffi_panel.proofs.store_button.Goals as goal
 
 pub returns : goal.returns
 returns c =
-    button-stored _ _ _ _ _ _ _ _ c.store_point.ensures c.store_point-2.ensures c.store_point-3.ensures c.store_point-4.ensures c.store_point-5.ensures c.store_point-6.ensures
+    button-stored _ _ _ _ _ _ _ _ c.put_point.ensures c.put_point-2.ensures c.put_point-3.ensures c.put_point-4.ensures c.put_point-5.ensures c.put_point-6.ensures

@@ -1,19 +1,17 @@
-use mathlib.Core.Path.{sym, ◌∙◌}
-use mathlib.Core.Bool.{true}
-use Rattle.ffi_shape.proofs.Corners.{held, not-held, none_left}
+use mathlib.Core.Path.{refl, ◌∙◌}
+use mathlib.Core.Bool.{Bool, true}
+use Prim.Native.Nat.{ℕ, ◌*◌}
+use Rattle.std.proofs.Common.{rules}
+use Rattle.std.proofs.lemmas.Iterator.{YieldsList-from_range}
+use Rattle.std.proofs.lemmas.Iterator.Search.{all_from_yields_List}
+use Rattle.containment.specs.Contains.{corner_contains_of}
+use Rattle.ffi_shape.specs.Layout.{quadrant_at}
+use Rattle.ffi_shape.proofs.Corners.{asked}
 use Rattle.ffi_shape.proofs.corners_hold.Goals as goal
-
-pub loop-k-preserved : goal.loop-k-preserved
-loop-k-preserved c =
-    let a = c.args in
-    c.loop-k.invariant ∙ held a.shape.now a.p true 4 c.loop-k.k _ c.loop-k-test.true c.corner_holds.ensures c.if-corner_holds.true
-
-pub returns-in-loop-k : goal.returns-in-loop-k
-returns-in-loop-k c =
-    let a = c.args in
-    sym (c.loop-k.invariant ∙ not-held a.shape.now a.p true 4 c.loop-k.k _ c.loop-k-test.true c.corner_holds.ensures c.if-corner_holds.false)
 
 pub returns : goal.returns
 returns c =
     let a = c.args in
-    sym (c.loop-k.invariant ∙ none_left a.shape.now a.p true 4 c.loop-k.k c.loop-k-test.false)
+    let test : ℕ → Bool = λ k. corner_contains_of (quadrant_at a.shape.now (22 * k)) a.p true in
+    all_from_yields_List test _ _ c.all.result c.all.ensures.ran (YieldsList-from_range 0 4 4 refl refl) (λ k b q h. search rules)
+    ∙ asked a.shape.now a.p true 4 0

@@ -11,9 +11,9 @@ returns-then-shape-ne-SHAPE_LENGTH c = rw (ne_eqb _ _ c.if-shape-ne-SHAPE_LENGTH
 pub returns-then-shape : goal.returns-then-shape
 returns-then-shape c =
     let a = c.args in
-    answered a.shape.now (point a.x a.y) _ _ _ c.if-shape-ne-SHAPE_LENGTH.false c.number.ensures c.corners_hold.ensures (all_hold a.shape.now _ c.if-shape.true)
+    answered a.shape.now (point a.x a.y) _ _ _ c.if-shape-ne-SHAPE_LENGTH.false c.from.ensures c.corners_hold.ensures (all_hold a.shape.now _ c.if-shape.true)
 
 pub returns : goal.returns
 returns c =
     let a = c.args in
-    answered a.shape.now (point a.x a.y) _ _ _ c.if-shape-ne-SHAPE_LENGTH.false c.number-2.ensures c.same_holds.ensures (first_holds a.shape.now _ c.if-shape.false)
+    answered a.shape.now (point a.x a.y) _ _ _ c.if-shape-ne-SHAPE_LENGTH.false c.from-2.ensures c.same_holds.ensures (first_holds a.shape.now _ c.if-shape.false)
