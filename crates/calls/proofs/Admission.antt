@@ -10,7 +10,7 @@ use Rattle.std.specs.Prelude.{⊤}
 use Rattle.std.proofs.Common.{Result, Ok, Err}
 use Rattle.stream.specs.declared.Builder.{Builder}
 use Rattle.stream.specs.declared.Need.{Need}
-use Rattle.stream.specs.Stream.{State, state, bad_record, has_room, bad_state, room_for, need_of, push_all}
+use Rattle.stream.specs.Stream.{State, bad_record, has_room, bad_state, room_for, need_of, push_all}
 use Rattle.lowering.specs.declared.Written.{Written}
 use Rattle.lowering.specs.Entries.{Entry, elements_of, joint_word}
 use Rattle.calls.specs.declared.BuildError.{BuildError}

@@ -5,7 +5,6 @@ use mathlib.Core.List.{List}
 use Prim.Native.Nat.{ℕ}
 use native.Mathlib.Omega.{arith}
 use lib.Ieee.{Float}
-use Rattle.stream.specs.declared.Builder.{Builder}
 use Rattle.stream.specs.Stream.{State, state, is_empty, push_all, bad_state, room_for}
 use Rattle.lowering.specs.Entries.{Entry, elements_of, joint_word}
 use Rattle.calls.specs.declared.Call.{Call}

@@ -1,6 +1,6 @@
 -- The needs of a corner and of a drawn outline, from those of their parts.
 use mathlib.Core.Path.{◌≡◌, refl, sym, ap, subst}
-use mathlib.Core.List.{[], ◌∷◌, ◌++◌, flatten}
+use mathlib.Core.List.{flatten}
 use Prim.Native.Nat.{ℕ, ◌+◌, ◌*◌, ◌≤◌}
 use native.Mathlib.Omega.{arith}
 use lib.Dec.{lit≤}
@@ -9,7 +9,6 @@ use Rattle.geometry.specs.declared.Point.{Point}
 use Rattle.stream.specs.declared.Need.{Need}
 use Rattle.stream.specs.Stream.{origin, need_of, sum_of, CanSum}
 use Rattle.lowering.specs.Entries.{elements_of}
-use Rattle.calls.specs.declared.Call.TheVariants.{LineTo}
 use Rattle.corners.specs.declared.RoundCorner.{RoundCorner}
 use Rattle.corners.specs.declared.Corner.{Corner}
 use Rattle.corners.specs.declared.Corner.TheVariants.{Square, Round}

@@ -1,10 +1,10 @@
 -- The calls that the Rust's `add_to`, `add_quadrant` and `add_octant` make on the path builder, with its names and in its order. Definitions only.
-use Rattle.std.specs.Prelude.{List, [], ◌∷◌, ◌++◌, Bool, true, false, cond, ◌||◌, ℕ, get_or, Float}
+use Rattle.std.specs.Prelude.{List, [], ◌∷◌, ◌++◌, Bool, true, false, cond, ℕ, get_or, Float}
 use Rattle.std.specs.Float.{nan}
-use Rattle.std.specs.Float.Ieee.{neg, lt}
+use Rattle.std.specs.Float.Ieee.{neg}
 use Rattle.geometry.specs.declared.Point.{Point}
 use Rattle.geometry.specs.Point.{one, add_of, mul_of}
-use Rattle.octant.specs.Binary32.{◌⊘◌, zero, two}
+use Rattle.octant.specs.Binary32.{◌⊘◌, zero}
 use Rattle.octant.specs.Octant.{point}
 use Rattle.octant.specs.declared.Octant.{Octant}
 use Rattle.quadrant.specs.declared.Quadrant.{Quadrant}

@@ -1,6 +1,4 @@
-use mathlib.Core.Path.{ap, ◌∙◌}
 use Rattle.std.proofs.Common.{rules}
-use Rattle.calls.specs.Calls.{admit_of}
 use Rattle.calls.proofs.Largest.{admitted_or}
 use Rattle.outline.proofs.Outlined.{drawn_covered}
 use Rattle.outline.proofs.admit_outline.Goals as goal
