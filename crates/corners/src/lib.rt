@@ -136,6 +136,7 @@ fn cubic_arc(place: Placement, c0: Point, c1: Point, to: Point) -> CubicArc
     }
 }
 
+// The two arms of the Rust's add_octant. One function would choose each of the points that they read differently.
 #[tactic(auto, unfolding(crate::specs::Corners::forwards_calls))]
 fn place_forwards(place: Placement, curves: Curves) -> OctantArcs
     ensures { calls_forwards result ≡ forwards_calls place curves }
