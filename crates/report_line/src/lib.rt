@@ -82,8 +82,8 @@ fn shape_line(out: &mut [u8; 72], index: usize, verbs: usize, points: usize) -> 
     number(out, c, points, b"\n")
 }
 
-// The line's text, at the start of out; the answer is its length. Tried as a `Display`: its clause speaks where
-// `fmt` answers Ok, and nothing says that it does, so that a text made by it is known as the line or as cut.
+// The line's text, at the start of out; the answer is its length. No `Display`: its clause speaks where `fmt`
+// answers Ok, and nothing says that it does, so that a text made by it is known as the line or as cut.
 #[tactic(auto, unfolding(crate::specs::Line::line_of))]
 pub fn text_of(line: Line, out: &mut [u8; 72]) -> usize
     ensures prefix_len { IsPrefixLen result out.new }
