@@ -9,7 +9,7 @@ ghost use Rattle.geometry.specs.Point.{add_of, sub_of, mul_of, div_of, scale_of,
 
 use std::ops::{Add, Div, Mul, Neg, Sub};
 
-#[derive(Clone, Copy, PartialEq)]
+#[derive(Clone, Copy, Debug, PartialEq)]
 pub struct Point {
     pub x: f32,
     pub y: f32,

@@ -14,7 +14,7 @@ use std::ops::Add;
 // How much of the buffers is held, the contour's start and the pen. Start and pen mean nothing while
 // no verb is held. The counts stand apart: side by side they would be read as one, and the processor waits where
 // two writes are read at once.
-#[derive(Clone, Copy)]
+#[derive(Clone, Copy, Debug)]
 pub struct Builder {
     pub verbs: usize,
     pub start: Point,
@@ -22,18 +22,8 @@ pub struct Builder {
     pub pen: Point,
 }
 
-// The counts alone: a point has no form for a debugger.
-impl fmt::Debug for Builder {
-    fn fmt<W: fmt::Write>(&self, f: &mut fmt::Formatter<W>) -> fmt::Result {
-        f.debug_struct("Builder")
-            .field("verbs", &self.verbs)
-            .field("points", &self.points)
-            .finish_non_exhaustive()
-    }
-}
-
 // The byte of each element in the buffer of verbs: 0 to 4, in this order.
-#[derive(Clone, Copy, PartialEq, Eq)]
+#[derive(Clone, Copy, Debug, PartialEq, Eq)]
 pub enum Verb {
     Move,
     Line,
