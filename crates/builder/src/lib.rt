@@ -1,5 +1,6 @@
 // The six building calls: each takes the record by value and the two buffers lent, counts its need
-// before anything is written, and writes all or nothing.
+// before anything is written, and writes all or nothing. Record and buffers go side by side, and not as one struct: what
+// slices that were lent to a struct's fields hold after its last use is not known to the check (tried).
 
 #![tactic(auto)]
 

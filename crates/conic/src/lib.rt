@@ -114,10 +114,13 @@ fn is_near(x0: f32, y0: f32, x1: f32, y1: f32, x2: f32, y2: f32, w: f32) -> bool
 
 // Whether one quad is near enough to a conic.
 #[tactic(auto, unfolding(crate::specs::Conic::flat_of))]
-pub fn is_flat(x0: f32, y0: f32, x1: f32, y1: f32, x2: f32, y2: f32, w: f32) -> bool
-    ensures { result ≡ flat_of (conic_at x0 y0 x1 y1 x2 y2 w) }
+pub fn is_flat(c: Conic) -> bool
+    ensures { result ≡ flat_of c }
 {
-    is_near_one(w) || is_near(x0, y0, x1, y1, x2, y2, w)
+    is_near_one(c.weight)
+        || is_near(
+            c.from.x, c.from.y, c.ctrl.x, c.ctrl.y, c.to.x, c.to.y, c.weight,
+        )
 }
 
 // Both halves of a conic, at its middle parameter, each of which may be halved d times. Both are compared before
@@ -183,9 +186,7 @@ fn count_quads(
 pub fn count(c: Conic) -> usize
     ensures { result ≡ count_of c }
 {
-    let flat = is_flat(
-        c.from.x, c.from.y, c.ctrl.x, c.ctrl.y, c.to.x, c.to.y, c.weight,
-    );
+    let flat = is_flat(c);
     count_quads(
         c.from.x, c.from.y, c.ctrl.x, c.ctrl.y, c.to.x, c.to.y, c.weight, MAX_DEPTH, flat,
     )

@@ -18,96 +18,71 @@ enum Face {
     Lent,
 }
 
-fn answered(rt: &impl Print, a: Result<Builder, BuildError>) -> io::Result<Builder> {
-    match a {
-        Ok(b) => {
-            lines::write_counts(rt, b)?;
-            Ok(b)
-        }
-        Err(e) => {
-            lines::write_number(rt, e.number())?;
-            Ok(e.builder())
-        }
-    }
+// A record with its buffers.
+#[derive(Drop)]
+struct Path<'a> {
+    builder: Builder,
+    verbs: &'a mut [u8],
+    points: &'a mut [f32],
 }
 
-fn side(
-    rt: &impl Print,
-    b: Builder,
-    verbs: &mut [u8],
-    points: &mut [f32],
-    p: Point,
-    q: Point,
-) -> io::Result<Builder> {
-    let moved = answered(rt, builder::move_to(b, verbs, points, p))?;
-    answered(rt, builder::line_to(moved, verbs, points, q))
-}
-
-fn by_value(
-    rt: &impl Print,
-    b: Builder,
-    verbs: &mut [u8],
-    points: &mut [f32],
-    p: Point,
-    q: Point,
-    r: Point,
-) -> io::Result<Builder> {
-    let second = side(rt, b, verbs, points, p, q)?;
-    let third = answered(rt, builder::line_to(second, verbs, points, r))?;
-    answered(rt, builder::close(third, verbs, points))
-}
-
-fn over_lent(
-    rt: &impl Print,
-    b: Builder,
-    verbs: &mut [u8],
-    points: &mut [f32],
-    p: Point,
-    q: Point,
-    r: Point,
-) -> io::Result<Builder> {
-    let d = triangle::triangle(b, verbs, points, p, q, r);
-    for a in [d.moved, d.second, d.third, d.closed] {
-        if let Err(e) = a {
-            lines::write_number(rt, e.number())?;
+impl Path<'_> {
+    // Keeps the record of an answer, and tells it.
+    fn keep(&mut self, rt: &impl Print, a: Result<Builder, BuildError>) -> io::Result<()> {
+        match a {
+            Ok(b) => {
+                self.builder = b;
+                lines::write_counts(rt, b)
+            }
+            Err(e) => {
+                self.builder = e.builder();
+                lines::write_number(rt, e.number())
+            }
         }
     }
-    Ok(d.builder)
-}
 
-// A triangle at x.
-fn draw_at(
-    rt: &impl Print,
-    face: Face,
-    b: Builder,
-    verbs: &mut [u8],
-    points: &mut [f32],
-    x: f32,
-) -> io::Result<Builder> {
-    let p = Point { x, y: 0.0 };
-    let q = Point { x: x + 1.0, y: 0.5 };
-    let r = Point { x, y: -1.25 };
-    match face {
-        Face::ByValue => by_value(rt, b, verbs, points, p, q, r),
-        Face::Lent => over_lent(rt, b, verbs, points, p, q, r),
+    fn line_to(&mut self, rt: &impl Print, p: Point) -> io::Result<()> {
+        let a = builder::line_to(self.builder, self.verbs, self.points, p);
+        self.keep(rt, a)
     }
-}
 
-// Four triangles, each to the right of the one before.
-fn draw(
-    rt: &impl Print,
-    face: Face,
-    b: Builder,
-    verbs: &mut [u8],
-    points: &mut [f32],
-) -> io::Result<()> {
-    let mut held = b;
-    let mut x = -1.75;
-    for _ in 0..4u8 {
-        held = draw_at(rt, face, held, verbs, points, x)?;
-        x += 1.5;
+    fn by_value(&mut self, rt: &impl Print, [p, q, r]: [Point; 3]) -> io::Result<()> {
+        let moved = builder::move_to(self.builder, self.verbs, self.points, p);
+        self.keep(rt, moved)?;
+        self.line_to(rt, q)?;
+        self.line_to(rt, r)?;
+        let closed = builder::close(self.builder, self.verbs, self.points);
+        self.keep(rt, closed)
     }
-    replies::write_stream(rt, held, verbs, points, true)
+
+    fn over_lent(&mut self, rt: &impl Print, [p, q, r]: [Point; 3]) -> io::Result<()> {
+        let d = triangle::triangle(self.builder, self.verbs, self.points, p, q, r);
+        self.builder = d.builder;
+        for a in [d.moved, d.second, d.third, d.closed] {
+            if let Err(e) = a {
+                lines::write_number(rt, e.number())?;
+            }
+        }
+        Ok(())
+    }
+
+    // Four triangles, each to the right of the one before, and the stream.
+    fn draw(mut self, rt: &impl Print, face: Face) -> io::Result<()> {
+        let mut x = -1.75;
+        for _ in 0..4u8 {
+            let corners = [
+                Point { x, y: 0.0 },
+                Point { x: x + 1.0, y: 0.5 },
+                Point { x, y: -1.25 },
+            ];
+            match face {
+                Face::ByValue => self.by_value(rt, corners)?,
+                Face::Lent => self.over_lent(rt, corners)?,
+            }
+            x += 1.5;
+        }
+        replies::write_stream(rt, self.builder, self.verbs, self.points, true)
+    }
 }
 
 // One list of calls, from this record, in buffers of v verbs and f floats.
@@ -120,7 +95,12 @@ fn list(rt: &impl Print, face: Face, b: Builder, v: usize, f: usize) -> io::Resu
     let Some(points) = points.get_mut(..f) else {
         return Ok(());
     };
-    draw(rt, face, b, verbs, points)
+    let path = Path {
+        builder: b,
+        verbs,
+        points,
+    };
+    path.draw(rt, face)
 }
 
 // Enough room, too little, none, and a record that does not suit its buffers.

@@ -84,12 +84,15 @@ pub struct Outline {
     pub corners: Corners,
 }
 
-#[tactic(auto, unfolding(crate::specs::Corners::curves_of))]
-fn solve(top: Octant, right: Octant) -> BothCurves
-    ensures { (result.top ≡ curves_of top) × (result.right ≡ curves_of right) }
+// What is drawn of both octants of a corner.
+fn both(
+    top_circle: [Point; 4],
+    right_circle: [Point; 4],
+    top_conics: SuperellipseConics,
+    right_conics: SuperellipseConics,
+) -> BothCurves
+    ensures { (result.top ≡ record { circle = top_circle; conics = top_conics }) × (result.right ≡ record { circle = right_circle; conics = right_conics }) }
 {
-    let [top_circle, right_circle] = octants::circular_arc_points([top, right]);
-    let [top_conics, right_conics] = octants::superellipse_conics([top, right]);
     BothCurves {
         top: Curves {
             circle: top_circle,
@@ -100,6 +103,15 @@ fn solve(top: Octant, right: Octant) -> BothCurves
             conics: right_conics,
         },
     }
+}
+
+#[tactic(auto, unfolding(crate::specs::Corners::curves_of))]
+fn solve(top: Octant, right: Octant) -> BothCurves
+    ensures { (result.top ≡ curves_of top) × (result.right ≡ curves_of right) }
+{
+    let [top_circle, right_circle] = octants::circular_arc_points([top, right]);
+    let [top_conics, right_conics] = octants::conics([top, right]);
+    both(top_circle, right_circle, top_conics, right_conics)
 }
 
 fn placement(param: Octant, offset: Point, scale: Point, flip: bool) -> Placement
@@ -251,26 +263,6 @@ fn equal_corners(tr: Quadrant) -> Corners
     }
 }
 
-fn both(
-    top_circle: [Point; 4],
-    right_circle: [Point; 4],
-    top_conics: SuperellipseConics,
-    right_conics: SuperellipseConics,
-) -> BothCurves
-    ensures { (result.top ≡ record { circle = top_circle; conics = top_conics }) × (result.right ≡ record { circle = right_circle; conics = right_conics }) }
-{
-    BothCurves {
-        top: Curves {
-            circle: top_circle,
-            conics: top_conics,
-        },
-        right: Curves {
-            circle: right_circle,
-            conics: right_conics,
-        },
-    }
-}
-
 // A solved corner, not reflected.
 fn round_one(param: Quadrant, solved: BothCurves, reverse: bool) -> Corner
     ensures { calls_of result ≡ solved_calls param solved.top solved.right reverse (mul_of param.signed_scale (point one one)) }
@@ -289,7 +281,7 @@ fn draw_round(p: Quadrant, q: Quadrant, r: Quadrant, s: Quadrant) -> Corners
         p.top, p.right, q.top, q.right, r.top, r.right, s.top, s.right,
     ];
     let a = octants::circular_arc_points(octants);
-    let c = octants::superellipse_conics(octants);
+    let c = octants::conics(octants);
     Corners {
         first: round_one(p, both(a[0], a[1], c[0], c[1]), false),
         second: round_one(q, both(a[2], a[3], c[2], c[3]), true),

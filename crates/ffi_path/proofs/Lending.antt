@@ -9,13 +9,14 @@ use lib.ListN.{length, drop}
 use lib.Seq.{sets, sets-eq, drop-length}
 use lib.Dec.{eqb}
 use lib.Ieee.{Float}
-use Rattle.std.proofs.Common.{Option, Some, None}
+use Rattle.std.proofs.Common.{Option, Some, None, Result, Err}
+use Rattle.lowering.specs.declared.Written.{Written}
 use Rattle.stream.specs.declared.Builder.{Builder}
 use Rattle.stream.proofs.Tests.{and_left, and_right, and-false}
 use Rattle.stream.specs.Stream.{State, state}
 use Rattle.calls.specs.declared.BuildError.{BuildError}
 use Rattle.calls.specs.declared.BuildError.TheVariants.{BadRecord, NoRoom}
-use Rattle.calls.specs.Calls.{Outcome, number_of, refusal_of}
+use Rattle.calls.specs.Calls.{Outcome, number_of, refusal_of, conic_outcome_of}
 use Rattle.ffi_path.specs.Lent.{builder_at, record_in, fitting, Left, left, left_by, lent_by}
 
 -- stores that fill a list
@@ -72,6 +73,10 @@ pub refusal_left : (e : BuildError) (n : ℕ) (counts : List ℕ) (places : List
 unfolding left_by
 refusal_left (BadRecord b) n counts places vs fs h = rw h
 refusal_left (NoRoom b) n counts places vs fs h = rw h
+
+pub bad_record_lem : (a : Result Written BuildError) (vs : List ℕ) (fs : List Float) (counts : List ℕ) (places : List Float) (b : Builder) → a ≡ Err (BadRecord b) → left 1 counts places vs fs ≡ left_by (conic_outcome_of a vs fs) counts places
+unfolding left_by
+bad_record_lem a vs fs counts places b e = rw e
 
 -- a call of any kind
 module _ (f : State → Outcome) (counts : List ℕ) (places : List Float) (vs : List ℕ) (fs : List Float) (r : Option Builder) (loaded : r ≡ record_in counts places) where

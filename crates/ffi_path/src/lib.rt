@@ -67,6 +67,8 @@ pub fn settle(counts: &mut [u64], places: &mut [f32], a: Result<Written, BuildEr
     }
 }
 
+// Six functions, and no generic one: C needs each with its own parameters, and what a closure lends is not known after its
+// call where it may not have been called (tried).
 pub fn shackletongue_move_to(
     counts: &mut [u64],
     places: &mut [f32],

@@ -9,11 +9,6 @@ ghost use Rattle.inspection.specs.Inspection.{within_bounds, centered, all_finit
 use geometry::Point;
 use shape::{Bounds, RoundSuperellipse};
 
-// The largest outline: 1,035 verbs and 2,074 points.
-const MOST_VERBS: usize = 1035;
-
-const MOST_FLOATS: usize = 4148;
-
 // A NaN is not within.
 #[tactic(auto, unfolding(crate::specs::Inspection::within_bounds))]
 fn within(bounds: Bounds, p: Point) -> bool
@@ -38,12 +33,13 @@ fn are_finite(floats: &[f32]) -> bool
     floats.iter().all(|x| ieee::is_finite(*x))
 }
 
-// The outline is drawn into buffers that hold the largest one, so it is never refused.
+// The outline is drawn into buffers that hold the largest one, so it is never refused. Arrays and no Vec: the library has no
+// heap.
 fn has_finite_outline(shape: RoundSuperellipse) -> bool
     ensures { result ≡ finite_outline shape }
 {
-    let mut verbs = [0u8; MOST_VERBS];
-    let mut points = [0.0f32; MOST_FLOATS];
+    let mut verbs = [0u8; outline::MOST_VERBS];
+    let mut points = [0.0f32; 2 * outline::MOST_POINTS];
     let Ok(b) = outline::add_to(shape, stream::new(), &mut verbs, &mut points) else {
         return false;
     };

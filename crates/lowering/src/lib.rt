@@ -86,7 +86,8 @@ fn put_quad(
 
 // The quads of a conic, their points from point `at` on, and the bits where they start; `one` tells whether it is one.
 // Halving calls itself, twice for each split, with the depth still allowed falling from 6. Most often both halves are
-// one quad each: then neither call is made.
+// one quad each: then neither call is made. A conic's floats go one by one, since a record would go through memory at each
+// call.
 fn push_conic(
     points: &mut [f32],
     at: &mut usize,
@@ -209,9 +210,7 @@ fn push_quads(v: usize, p: usize, verbs: &mut [u8], points: &mut [f32], c: Conic
     requires { (v + count_of c ≤ length verbs.old) × (2 * (p + 2 * count_of c) ≤ length points.old) }
     ensures { Lowers result v p c verbs.old points.old verbs.new points.new }
 {
-    if conic::is_flat(
-        c.from.x, c.from.y, c.ctrl.x, c.ctrl.y, c.to.x, c.to.y, c.weight,
-    ) {
+    if conic::is_flat(c) {
         return push_piece(v, p, verbs, points, c.ctrl, c.to);
     }
     push_curve(v, p, verbs, points, c)

@@ -4,8 +4,10 @@
 #![tactic(auto)]
 
 ghost use Rattle.std.specs.Prelude.{◌≡◌, ◌<◌, ◌^◌, map};
+ghost use Rattle.std.specs.Simd.Lanes.{zip2};
+ghost use Rattle.arcs.specs.Conics.{superellipse_conics_of};
 ghost use Rattle.arcs.specs.Circle.{arc_points_of, circular_arc_points_of};
-ghost use Rattle.octants.specs.Octants.{start_of, ratio_of, met_of, conics_of};
+ghost use Rattle.octants.specs.Octants.{start_of, ratio_of, met_of, drawn_of, conics_of};
 
 use arcs::{ConicFactors, SuperellipseConics};
 use geometry::Point;
@@ -33,14 +35,14 @@ struct End {
     slopes: Slopes,
 }
 
-fn started(octant: Octant) -> Start
-    ensures { result ≡ start_of octant }
+fn started(octant: Octant, yj_over_a: f32) -> Start
+    ensures { result ≡ start_of octant yj_over_a }
 {
     let factors = arcs::superellipse_conic_factors(
         octant.se_n,
         octant.circle_start.x / octant.se_a,
     );
-    let y = arcs::meeting(factors, octant.circle_start.y / octant.se_a);
+    let y = arcs::meeting(factors, yj_over_a);
     Start { octant, factors, y }
 }
 
@@ -61,26 +63,44 @@ fn met(s: Start, x: f32) -> Point
     }
 }
 
-// The superellipse arcs of N octants. The tangents fall, by as much as the slopes. The bound on N: N records `Start` fit in
-// memory, which the types of o and the result do not say, since a `Start` is larger.
-pub fn superellipse_conics<const N: usize>(o: [Octant; N]) -> [SuperellipseConics; N]
-    requires { N < 2 ^ 57 }
-    ensures { result ≡ map conics_of o.entry }
+// The superellipse arcs of N octants that are started. The tangents fall, by as much as the slopes.
+fn drawn<const N: usize>(s: [Start; N]) -> [SuperellipseConics; N]
+    ensures { result ≡ map drawn_of s.entry }
 {
-    let s = lanes::each(o, started);
-    let n = lanes::each(o, |o| o.se_n);
+    let n = lanes::each(s, |s| s.octant.se_n);
     let powers = exponential::powers(lanes::each(s, |s| s.y), n);
     let rests = lanes::each(powers, |p| 1.0 - p);
     let roots = exponential::powers(rests, lanes::each(n, |n| 1.0 / n));
     let h = lanes::pairwise(s, roots, met);
     let less = lanes::each(n, |n| n - 1.0);
     let at_h = exponential::powers(lanes::each(h, ratio), less);
-    let at_j = exponential::powers(lanes::each(o, |o| ratio(o.circle_start)), less);
+    let at_j = exponential::powers(lanes::each(s, |s| ratio(s.octant.circle_start)), less);
     let slopes = lanes::pairwise(at_h, at_j, |at_h, at_j| Slopes { at_h, at_j });
     let ends = lanes::pairwise(h, slopes, |h, slopes| End { h, slopes });
     lanes::pairwise(s, ends, |s, e| {
         arcs::joined(s.octant, s.factors, e.h, -e.slopes.at_h, -e.slopes.at_j)
     })
+}
+
+// The superellipse arcs of N octants, each by the height where its circle starts, as a part of its half-extent. The bound
+// on N, here and below: N records `Start` fit in memory, which the types of the arguments and the result do not say, since
+// a `Start` is larger.
+pub fn superellipse_conics<const N: usize>(
+    o: [Octant; N],
+    yj_over_a: [f32; N],
+) -> [SuperellipseConics; N]
+    requires { N < 2 ^ 57 }
+    ensures { result ≡ zip2 superellipse_conics_of o.entry yj_over_a.entry }
+{
+    drawn(lanes::pairwise(o, yj_over_a, started))
+}
+
+// The same by the octants' own heights.
+pub fn conics<const N: usize>(o: [Octant; N]) -> [SuperellipseConics; N]
+    requires { N < 2 ^ 57 }
+    ensures { result ≡ map conics_of o.entry }
+{
+    superellipse_conics(o, lanes::each(o, |o| o.circle_start.y / o.se_a))
 }
 
 // The sine and cosine of minus an arc's angle, and the tangent of a quarter of it.

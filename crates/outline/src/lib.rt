@@ -20,9 +20,9 @@ use shape::RoundSuperellipse;
 use stream::{Builder, Element, Need};
 
 // The largest outline.
-const MOST_VERBS: usize = 1035;
+pub const MOST_VERBS: usize = 1035;
 
-const MOST_POINTS: usize = 2074;
+pub const MOST_POINTS: usize = 2074;
 
 // A building call as a value: the six of path.rs, and the outline of a shape.
 // Stays an enum of seven: with the six as one case that holds a calls::Call, each use of them would name two cases.

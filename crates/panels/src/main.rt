@@ -3,44 +3,48 @@
 
 #![tactic(auto)]
 
+use arrayvec::ArrayVec;
 use std::io;
 
-// Some bytes behind others, which has to have room: how many there are then.
-fn put_bytes(line: &mut [u8], at: usize, bytes: &[u8]) -> Option<usize> {
-    let next = text::put(line, at, bytes);
-    if next == at { None } else { Some(next) }
-}
+// A panel file, and the bytes that a line adds to it.
+type File = ArrayVec<u8, 131072>;
+
+type Part = ArrayVec<u8, 512>;
 
 // A field's bytes behind those of the line's fields before, the lowest first.
-fn put_field(line: &mut [u8], at: usize, word: &[u8]) -> Option<usize> {
-    let n = text::read_number(word, 16)?;
-    let bytes = n.to_le_bytes();
-    match word.len() {
-        2 => put_bytes(line, at, &bytes[..1]),
-        4 => put_bytes(line, at, &bytes[..2]),
-        8 => put_bytes(line, at, &bytes[..4]),
-        _ => None,
-    }
+fn put_field(part: &mut Part, word: &[u8]) -> Option<()> {
+    let bytes = text::read_number(word, 16)?.to_le_bytes();
+    let length = match word.len() {
+        2 => 1,
+        4 => 2,
+        8 => 4,
+        _ => return None,
+    };
+    part.try_extend_from_slice(&bytes[..length]).ok()
 }
 
 // The bytes of all fields of a line.
-fn put_fields(line: &mut [u8], words: &[u8]) -> Option<usize> {
-    let mut n = 0;
+fn part_of(words: &[u8]) -> Option<Part> {
+    let mut part = Part::new();
     let mut rest = words;
     while let Some((word, tail)) = text::split_word(rest) {
-        n = put_field(line, n, word)?;
+        put_field(&mut part, word)?;
         rest = tail;
     }
-    Some(n)
+    Some(part)
 }
 
-// So many copies of some bytes behind the file's; as many as there is room for.
-fn put_copies(file: &mut [u8], held: usize, part: &[u8], times: u64) -> usize {
-    let mut at = held;
+// A line that adds bytes to the file: how often, then the fields. As many copies as there is room for.
+fn add(file: &mut File, line: &[u8]) -> Option<()> {
+    let (word, rest) = text::split_word(line)?;
+    let times = text::read_number(word, 10)?;
+    let part = part_of(rest)?;
     for _ in 0..times {
-        at = text::put(file, at, part);
+        if file.try_extend_from_slice(&part).is_err() {
+            break;
+        }
     }
-    at
+    Some(())
 }
 
 fn write_report(rt: &impl Print, file: &[u8]) -> io::Result<()> {
@@ -49,41 +53,21 @@ fn write_report(rt: &impl Print, file: &[u8]) -> io::Result<()> {
     rt.write_all(&out[..n])
 }
 
-// A line that adds bytes to the file: how often, then the fields.
-fn add(file: &mut [u8], held: usize, line: &[u8]) -> Option<usize> {
-    let (word, rest) = text::split_word(line)?;
-    let times = text::read_number(word, 10)?;
-    let mut part = [0u8; 512];
-    let n = put_fields(&mut part, rest)?;
-    Some(put_copies(file, held, part.get(..n)?, times))
-}
-
-// How many bytes the file has behind the line; none where the line is bad.
-fn take_line(
-    rt: &impl Print,
-    file: &mut [u8],
-    held: usize,
-    line: &[u8],
-) -> io::Result<Option<usize>> {
-    match text::split_word(line) {
-        None => Ok(Some(held)),
-        Some((b"report", _)) => {
-            if let Some(whole) = file.get(..held) {
-                write_report(rt, whole)?;
-            }
-            Ok(Some(0))
-        }
-        Some(_) => Ok(add(file, held, line)),
-    }
-}
-
-fn take_lines(rt: &impl Print, file: &mut [u8], lines: &[u8]) -> io::Result<()> {
-    let mut held = 0;
+fn take_lines(rt: &impl Print, lines: &[u8]) -> io::Result<()> {
+    let mut file = File::new();
     for line in lines.split(|b| *b == b'\n') {
-        let Some(next) = take_line(rt, file, held, line)? else {
-            return rt.println("bad");
-        };
-        held = next;
+        match text::split_word(line) {
+            None => {}
+            Some((b"report", _)) => {
+                write_report(rt, &file)?;
+                file.clear();
+            }
+            Some(_) => {
+                if add(&mut file, line).is_none() {
+                    return rt.println("bad");
+                }
+            }
+        }
     }
     Ok(())
 }
@@ -92,6 +76,5 @@ fn main(rt: HostRuntime) -> io::Result<()> {
     let mut lines = [0u8; 131072];
     // What a read that fails leaves unread is no line.
     let (n, _) = input::fill(&mut rt.stdin(), &mut lines);
-    let mut file = [0u8; 131072];
-    take_lines(&rt, &mut file, &lines[..n])
+    take_lines(&rt, &lines[..n])
 }

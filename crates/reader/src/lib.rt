@@ -132,6 +132,7 @@ pub fn read_points<'a>(b: Builder, verbs: &[u8], points: &'a [f32], c: Cursor) -
     &points[..0]
 }
 
+// Not the bounds of a shape, though it has the same fields: those are what a shape is asked for, and a stream knows no shape.
 #[derive(Drop)]
 pub struct Rect {
     pub min: Point,

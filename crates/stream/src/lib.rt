@@ -22,7 +22,8 @@ pub struct Builder {
     pub pen: Point,
 }
 
-// The byte of each element in the buffer of verbs: 0 to 4, in this order.
+// The byte of each element in the buffer of verbs: 0 to 4, in this order. In the buffer it stays a byte: document 01 fixes
+// it so, and C lends bytes.
 #[derive(Clone, Copy, Debug, PartialEq, Eq)]
 pub enum Verb {
     Move,
@@ -164,7 +165,8 @@ pub fn is_empty(b: Builder) -> bool
 }
 
 // Cause 1: the record does not suit buffers of these lengths. A division, since twice the point count
-// may overflow.
+// may overflow. The lengths go one by one, here and in the calls above: each is the `len()` of a lent slice, and a struct of
+// both would be made for one use.
 #[tactic(auto, unfolding(crate::specs::Stream::bad_record))]
 pub fn bad_record(b: Builder, verbs: usize, floats: usize) -> bool
     ensures { result ≡ bad_record b verbs floats }

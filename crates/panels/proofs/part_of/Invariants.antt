@@ -1,6 +1,6 @@
--- `panels::put_fields` ends: fewer bytes are left after each word. Assumes nothing.
+-- `panels::part_of` ends: fewer bytes are left after each word. Assumes nothing.
 use Rattle.std.proofs.Common.{length}
-use Rattle.panels.proofs.put_fields.Given as goal
+use Rattle.panels.proofs.part_of.Given as goal
 
 abbrev pub decreases-loop-word : goal.decreases-loop-word
 decreases-loop-word l = length l.rest
