@@ -66,8 +66,8 @@ impl Path<'_> {
         Ok(())
     }
 
-    // Four triangles, each to the right of the one before, and the stream.
-    fn draw(mut self, rt: &impl Print, face: Face) -> io::Result<()> {
+    // Four triangles, each to the right of the one before.
+    fn draw(&mut self, rt: &impl Print, face: Face) -> io::Result<()> {
         let mut x = -1.75;
         for _ in 0..4u8 {
             let corners = [
@@ -81,7 +81,7 @@ impl Path<'_> {
             }
             x += 1.5;
         }
-        replies::write_stream(rt, self.builder, self.verbs, self.points, true)
+        Ok(())
     }
 }
 
@@ -95,12 +95,18 @@ fn list(rt: &impl Print, face: Face, b: Builder, v: usize, f: usize) -> io::Resu
     let Some(points) = points.get_mut(..f) else {
         return Ok(());
     };
-    let path = Path {
+    let mut path = Path {
         builder: b,
         verbs,
         points,
     };
-    path.draw(rt, face)
+    path.draw(rt, face)?;
+    let Path {
+        builder,
+        verbs,
+        points,
+    } = path;
+    replies::write_stream(rt, builder, verbs, points, true)
 }
 
 // Enough room, too little, none, and a record that does not suit its buffers.
