@@ -1,6 +1,5 @@
 -- What the exported functions answer, case by case.
 use mathlib.Core.Path.{◌≡◌, ◌∙◌}
-use mathlib.Core.Bool.{Bool, true, false}
 use mathlib.Core.List.{List}
 use Prim.Native.Nat.{ℕ}
 use borrow.Author.Tests.{eq-eqb, ne_eqb}
@@ -17,7 +16,7 @@ use Rattle.calls.specs.Calls.{entries_of}
 use Rattle.shape.specs.declared.RoundSuperellipse.{RoundSuperellipse}
 use Rattle.contour.specs.Entries.{outline_entries}
 use Rattle.ffi_shape.specs.Layout.{shape_at}
-use Rattle.ffi_path.specs.Lent.{builder_at, record_in, Left, left}
+use Rattle.ffi_path.specs.Lent.{record_in, Left, left}
 use Rattle.ffi_path.proofs.Lending.{record_is, no_record}
 use Rattle.ffi_outline.specs.Outlines.{outlined, add_of, needed, numbers_of, outline_need_of, conic_need_of}
 

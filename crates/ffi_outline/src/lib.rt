@@ -28,9 +28,9 @@ pub fn shackletongue_add_to(
 ) -> u32
     ensures { left result counts.new places.new verbs.new points.new ≡ add_of shape.now counts.old places.old verbs.old points.old }
 {
-    if shape.len() != SHAPE_LENGTH {
+    let Some(shape) = shape.as_array::<SHAPE_LENGTH>() else {
         return WRONG_LENGTH;
-    }
+    };
     let Some(b) = ffi_path::load(counts, places) else {
         return WRONG_LENGTH;
     };
@@ -50,9 +50,9 @@ fn store_need(need: &mut [u64], n: Need)
 pub fn shackletongue_outline_need(shape: &[f32], need: &mut [u64]) -> u32
     ensures { needed result need.new ≡ outline_need_of shape.now need.old }
 {
-    if shape.len() != SHAPE_LENGTH {
+    let Some(shape) = shape.as_array::<SHAPE_LENGTH>() else {
         return WRONG_LENGTH;
-    }
+    };
     if need.len() != NEED_LENGTH {
         return WRONG_LENGTH;
     }
@@ -92,8 +92,8 @@ pub fn shackletongue_is_consistent(sizes: &[f32], shape: &[f32]) -> u32
     if sizes.len() != SIZES_LENGTH {
         return WRONG_LENGTH;
     }
-    if shape.len() != SHAPE_LENGTH {
+    let Some(shape) = shape.as_array::<SHAPE_LENGTH>() else {
         return WRONG_LENGTH;
-    }
+    };
     u32::from(inspection::is_consistent(ffi_shape::bounds_at(sizes), ffi_shape::shape_at(shape)))
 }

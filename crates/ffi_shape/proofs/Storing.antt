@@ -1,13 +1,15 @@
 -- Floats that are stored one behind the other are one list.
 use mathlib.Core.Path.{◌≡◌, refl, sym, ap, ◌∙◌}
 use mathlib.Core.List.{List, [], ◌∷◌, ◌++◌, append-nil}
-use mathlib.Core.Bool.{cond}
+use mathlib.Core.Bool.{Bool, true, false, cond}
 use Prim.Native.Nat.{ℕ, ◌+◌, ◌≤◌}
 use native.Mathlib.Omega.{arith}
 use native.Mathlib.Nat.{zero-add}
 use lib.ListN.{length, set, drop}
 use lib.Seq.{drop-length}
-use lib.Ieee.{Float}
+use Rattle.std.specs.Prelude.{pos}
+use lib.Ieee.{Float, binary32, of_int, of_bits}
+use Rattle.std.specs.Int.{from_bool}
 use Rattle.stream.specs.Stream.{put}
 use Rattle.stream.proofs.Put.{put_one, put-after}
 use Rattle.geometry.specs.Point.{one}
@@ -47,6 +49,12 @@ quadrant_stored l m₁ m₂ m₃ m₄ i q h e₁ e₂ e₃ e₄ =
 put_whole : (l vs : List Float) → length l ≡ length vs → put l 0 vs ≡ vs
 unfolding put
 put_whole l vs e = ap (λ (k : ℕ). vs ++ drop k l) (zero-add (length vs) ∙ sym e) ∙ ap (λ (r : List Float). vs ++ r) (drop-length l) ∙ append-nil vs
+
+-- 1 for true and 0 for false, as floats
+pub flag_is : (b : Bool) (v : Float) → v ≡ of_int binary32 (pos (from_bool b)) → v ≡ cond b one zero
+unfolding of_int of_bits
+flag_is true v e = e
+flag_is false v e = e
 
 pub shape-stored : (l m₁ m₂ m₃ m₄ : List Float) (v : Float) (s : RoundSuperellipse) → length l ≡ 89
     → m₁ ≡ put l 0 (quadrant_floats s.top_right) → m₂ ≡ put m₁ 22 (quadrant_floats s.bottom_right) → m₃ ≡ put m₂ 44 (quadrant_floats s.bottom_left) → m₄ ≡ put m₃ 66 (quadrant_floats s.top_left)

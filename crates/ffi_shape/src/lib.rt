@@ -3,9 +3,8 @@
 
 #![tactic(auto)]
 
-ghost use Rattle.std.specs.Prelude.{◌≡◌, true, false, cond, ◌+◌, ◌≤◌, length};
-ghost use Rattle.geometry.specs.Point.{one, sub_of, div_of};
-ghost use Rattle.octant.specs.Binary32.{zero};
+ghost use Rattle.std.specs.Prelude.{◌≡◌, true, false, ◌+◌, ◌*◌, ◌<◌, ◌≤◌, length};
+ghost use Rattle.geometry.specs.Point.{sub_of, div_of};
 ghost use Rattle.octant.specs.Octant.{point};
 ghost use Rattle.containment.specs.Contains.{norm_contains, round_contains, corner_contains_of};
 ghost use Rattle.stream.specs.Stream.{put};
@@ -49,24 +48,14 @@ fn store_quadrant(floats: &mut [f32], at: usize, q: Quadrant)
     store_octant(floats, at + 13, q.right);
 }
 
-fn flag(b: bool) -> f32
-    ensures { result ≡ cond b one zero }
-{
-    if b {
-        return 1.0;
-    }
-    0.0
-}
-
-fn store_shape(floats: &mut [f32], s: RoundSuperellipse)
-    requires { length floats.old ≡ 89 }
+fn store_shape(floats: &mut [f32; 89], s: RoundSuperellipse)
     ensures { floats.new ≡ shape_floats s }
 {
     store_quadrant(floats, 0, s.top_right);
     store_quadrant(floats, 22, s.bottom_right);
     store_quadrant(floats, 44, s.bottom_left);
     store_quadrant(floats, 66, s.top_left);
-    floats[88] = flag(s.all_corners_same);
+    floats[88] = f32::from(s.all_corners_same);
 }
 
 #[tactic(auto, unfolding(crate::specs::Layout::octant_at))]
@@ -98,8 +87,7 @@ fn quadrant_at(floats: &[f32], at: usize) -> Quadrant
 }
 
 #[tactic(auto, unfolding(crate::specs::Layout::shape_at))]
-pub fn shape_at(shape: &[f32]) -> RoundSuperellipse
-    requires { length shape.now ≡ 89 }
+pub fn shape_at(shape: &[f32; 89]) -> RoundSuperellipse
     ensures { result ≡ shape_at shape.now }
 {
     RoundSuperellipse {
@@ -146,9 +134,9 @@ pub fn shackletongue_shape(sizes: &[f32], shape: &mut [f32]) -> u32
     if sizes.len() != SIZES_LENGTH {
         return WRONG_LENGTH;
     }
-    if shape.len() != SHAPE_LENGTH {
+    let Some(shape) = shape.as_mut_array::<SHAPE_LENGTH>() else {
         return WRONG_LENGTH;
-    }
+    };
     match RoundSuperellipse::new(bounds_at(sizes), radii_at(sizes)) {
         Ok(s) => {
             store_shape(shape, s);
@@ -158,51 +146,49 @@ pub fn shackletongue_shape(sizes: &[f32], shape: &mut [f32]) -> u32
     }
 }
 
-// A point in the space of the corner at `at`.
-fn norm_point(shape: &[f32], at: usize, p: Point) -> Point
-    requires { at + 22 ≤ length shape.now }
-    ensures { result ≡ div_of (sub_of p (point_at shape.now at)) (point_at shape.now (at + 2)) }
+// A point in the space of the k-th corner.
+fn norm_point(shape: &[f32; 89], k: usize, p: Point) -> Point
+    requires { k < 4 }
+    ensures { result ≡ div_of (sub_of p (point_at shape.now (22 * k))) (point_at shape.now (22 * k + 2)) }
 {
-    (p - point_at(shape, at)) / point_at(shape, at + 2)
+    (p - point_at(shape, 22 * k)) / point_at(shape, 22 * k + 2)
 }
 
-// Whether the corner at `at` holds a point in its own space. Called from several places, it is compiled apart from
+// Whether the k-th corner holds a point in its own space. Called from several places, it is compiled apart from
 // them, and reads the floats that it needs.
-fn norm_holds(shape: &[f32], at: usize, x: f32, y: f32) -> bool
-    requires { at + 22 ≤ length shape.now }
-    ensures { result ≡ norm_contains (quadrant_at shape.now at) (point x y) }
+fn norm_holds(shape: &[f32; 89], k: usize, x: f32, y: f32) -> bool
+    requires { k < 4 }
+    ensures { result ≡ norm_contains (quadrant_at shape.now (22 * k)) (point x y) }
 {
-    containment::norm_contains(quadrant_at(shape, at), Point { x, y })
+    containment::norm_contains(quadrant_at(shape, 22 * k), Point { x, y })
 }
 
-// Whether the corner at `at` holds the point, or is not asked: it is not in its quadrant.
+// Whether the k-th corner holds the point, or is not asked: it is not in its quadrant.
 #[tactic(auto, unfolding(containment::specs::Contains::corner_contains_of, crate::specs::Layout::quadrant_at))]
-fn corner_holds(shape: &[f32], at: usize, p: Point) -> bool
-    requires { at + 22 ≤ length shape.now }
-    ensures { result ≡ corner_contains_of (quadrant_at shape.now at) p true }
+fn corner_holds(shape: &[f32; 89], k: usize, p: Point) -> bool
+    requires { k < 4 }
+    ensures { result ≡ corner_contains_of (quadrant_at shape.now (22 * k)) p true }
 {
-    let n = norm_point(shape, at, p);
+    let n = norm_point(shape, k, p);
     if n.x < 0.0 {
         return true;
     }
     if n.y < 0.0 {
         return true;
     }
-    norm_holds(shape, at, n.x, n.y)
+    norm_holds(shape, k, n.x, n.y)
 }
 
-fn corners_hold(shape: &[f32], p: Point) -> bool
-    requires { length shape.now ≡ 89 }
+fn corners_hold(shape: &[f32; 89], p: Point) -> bool
     ensures { result ≡ corners_hold shape.now p true 4 0 }
 {
-    (0..4).all(|k| corner_holds(shape, 22 * k, p))
+    (0..4).all(|k| corner_holds(shape, k, p))
 }
 
 // Whether the first corner, a round one, holds a point in its own space. The right octant is read only where the top one
 // holds the point.
 #[tactic(auto, unfolding(crate::specs::Layout::quadrant_at, containment::specs::Contains::round_contains))]
-fn octants_hold(shape: &[f32], n: Point) -> bool
-    requires { length shape.now ≡ 89 }
+fn octants_hold(shape: &[f32; 89], n: Point) -> bool
     ensures { result ≡ round_contains (quadrant_at shape.now 0) n }
 {
     let top = octant_at(shape, 4);
@@ -215,8 +201,7 @@ fn octants_hold(shape: &[f32], n: Point) -> bool
 }
 
 // Whether the one corner that describes all four holds the point. Round corners, nearly all, are asked in place.
-fn same_holds(shape: &[f32], p: Point) -> bool
-    requires { length shape.now ≡ 89 }
+fn same_holds(shape: &[f32; 89], p: Point) -> bool
     ensures { result ≡ corner_contains_of (quadrant_at shape.now 0) p false }
 {
     let corner = quadrant_at(shape, 0);
@@ -231,9 +216,9 @@ fn same_holds(shape: &[f32], p: Point) -> bool
 pub fn shackletongue_contains(shape: &[f32], x: f32, y: f32) -> u32
     ensures { result ≡ holds_of shape.now (point x y) }
 {
-    if shape.len() != SHAPE_LENGTH {
+    let Some(shape) = shape.as_array::<SHAPE_LENGTH>() else {
         return WRONG_LENGTH;
-    }
+    };
     if shape[88] == 0.0 {
         return u32::from(corners_hold(shape, Point { x, y }));
     }

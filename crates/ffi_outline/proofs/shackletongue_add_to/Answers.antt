@@ -10,23 +10,25 @@ use Rattle.ffi_path.proofs.Lending.{record_is, lent, wrong_lengths}
 use Rattle.ffi_outline.proofs.Answers.{no_shape, drawn}
 use Rattle.ffi_outline.proofs.shackletongue_add_to.Goals as goal
 
-pub returns-then-shape-ne-SHAPE_LENGTH : goal.returns-then-shape-ne-SHAPE_LENGTH
-returns-then-shape-ne-SHAPE_LENGTH c =
-    let a = c.args in
-    no_shape a.shape.now a.counts.now a.places.now a.verbs.now a.points.now c.if-shape-ne-SHAPE_LENGTH.true
-
 pub returns-in_default : goal.returns-in_default
 returns-in_default c =
     let a = c.args in
-    drawn a.shape.now a.counts.now a.places.now a.verbs.now a.points.now _ c.if-shape-ne-SHAPE_LENGTH.false (wrong_lengths (λ (s : State). step s (AddTo (shape_at a.shape.now))) a.counts.now a.places.now a.verbs.now a.points.now _ c.load.ensures (search rules))
+    no_shape a.shape.now a.counts.now a.places.now a.verbs.now a.points.now c.in_default.ensures.cases
+
+pub returns-in_default-load : goal.returns-in_default-load
+returns-in_default-load c =
+    let a = c.args in
+    drawn a.shape.now a.counts.now a.places.now a.verbs.now a.points.now _ c.in-Some.ensures.cases.long (wrong_lengths (λ (s : State). step s (AddTo (shape_at a.shape.now))) a.counts.now a.places.now a.verbs.now a.points.now _ c.load.ensures (search rules))
 
 pub settle-requires : goal.settle-requires
 settle-requires c =
-    let k = record_is _ _ _ _ c.load.ensures c.in-Some.is in
+    let k = record_is _ _ _ _ c.load.ensures c.in-Some-load.is in
     (k.counted, k.placed)
 
 pub returns : goal.returns
 returns c =
     let a = c.args in
-    let o = no_word c.add_to-a.result _ _ _ (search rules) ∙ c.add_to-a.ensures ∙ ap (λ (x : RoundSuperellipse). step (state c.in-Some.b a.verbs.now a.points.now) (AddTo x)) c.shape_at.ensures in
-    drawn a.shape.now a.counts.now a.places.now a.verbs.now a.points.now _ c.if-shape-ne-SHAPE_LENGTH.false (lent (λ (s : State). step s (AddTo (shape_at a.shape.now))) a.counts.now a.places.now a.verbs.now a.points.now _ c.load.ensures _ _ _ c.in-Some.is o (c.settle.ensures _ _))
+    let e = c.in-Some.ensures.cases in
+    let shape = rw e.same at c.shape_at.ensures in
+    let o = no_word c.add_to-a.result _ _ _ (search rules) ∙ c.add_to-a.ensures ∙ ap (λ (x : RoundSuperellipse). step (state c.in-Some-load.b a.verbs.now a.points.now) (AddTo x)) shape in
+    drawn a.shape.now a.counts.now a.places.now a.verbs.now a.points.now _ e.long (lent (λ (s : State). step s (AddTo (shape_at a.shape.now))) a.counts.now a.places.now a.verbs.now a.points.now _ c.load.ensures _ _ _ c.in-Some-load.is o (c.settle.ensures _ _))
