@@ -9,7 +9,7 @@ ghost use Rattle.inspection.specs.Inspection.{within_bounds, centered, all_finit
 use geometry::Point;
 use shape::{Bounds, RoundSuperellipse};
 
-// The largest outline: 1,035 verbs and 2,074 points.
+// The largest outline: 1,035 verbs and 2,074 points. Arrays of the largest size and no Vec: the library has no heap.
 const MOST_VERBS: usize = 1035;
 
 const MOST_FLOATS: usize = 4148;
