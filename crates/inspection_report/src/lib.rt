@@ -18,8 +18,7 @@ fn finding_line(index: usize, button: Button) -> Line
 {
     match touch::shape_of(button) {
         Ok(shape) => {
-            let min = button.min;
-            let max = button.max;
+            let Button { min, max, .. } = button;
             if inspection::is_consistent(Bounds { min, max }, shape) {
                 return Line::Consistent(index);
             }
@@ -51,10 +50,6 @@ pub fn inspect(file: &[u8], out: &mut [u8; 393288]) -> usize
 {
     match PanelFile::new(file) {
         Ok(file) => report_line::put_records(&Findings, &file, out),
-        Err(broken) => report_line::put_line(
-            Line::Broken(usize::from(broken.number()), broken.offset),
-            out,
-            0,
-        ),
+        Err(broken) => report_line::put_line(Line::from(broken), out, 0),
     }
 }

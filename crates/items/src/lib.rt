@@ -178,6 +178,8 @@ fn of_floats(name: &[u8], x: &[f32]) -> Option<Item>
     }
 }
 
+// Names compared by `==`, here and in `of_words`: a `match` on the name was tried, and its proof did not close for the names
+// of six and of seven bytes.
 #[tactic(auto, unfolding(crate::specs::Items::has_counts))]
 fn has_counts(name: &[u8]) -> bool
     ensures { result ≡ has_counts name.now }

@@ -71,6 +71,7 @@ pub fn push<T: Element>(line: &[u8], buffer: &mut [T], held: usize) -> Option<us
 {
     let mut held = held;
     let mut rest = line;
+    // No iterator of words: the definition is a recursion over them (`over_words`), so the invariant says what is left to do.
     while let Some((word, tail)) = text::split_word(rest) {
         held = T::push_word(word, buffer, held)?;
         rest = tail;

@@ -31,6 +31,7 @@ pub fn read(line: &[u8]) -> Option<Operands>
 {
     let mut x = ArrayVec::new();
     let mut rest = line;
+    // No iterator of words: the definition is a recursion over them (`over_words`), so the invariant says what is left to do.
     while let Some((word, tail)) = text::split_word(rest) {
         push_next(&mut x, word)?;
         rest = tail;

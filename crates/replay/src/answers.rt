@@ -34,6 +34,10 @@ pub fn write_box(rt: &impl Print, a: Result<Option<Rect>, ReadError>) -> io::Res
     )
 }
 
+fn write_refused(rt: &impl Print, number: u8) -> io::Result<()> {
+    write(rt, Reply::Refused(u64::from(number)))
+}
+
 // Only a conic's reply has a joint word.
 fn of_done(call: BuildingCall, b: Builder, word: u64) -> Reply {
     match call {
@@ -54,7 +58,7 @@ pub fn write_built(
             Ok(w.builder)
         }
         Err(e) => {
-            write(rt, Reply::Refused(e.number() as u64))?;
+            write_refused(rt, e.number())?;
             Ok(e.builder())
         }
     }
@@ -62,7 +66,7 @@ pub fn write_built(
 
 // Why there is no shape.
 pub fn write_no_shape(rt: &impl Print, error: ShapeError) -> io::Result<()> {
-    write(rt, Reply::Refused(u64::from(error.number())))
+    write_refused(rt, error.number())
 }
 
 // Whether the shape contains the point, or why there is no shape.

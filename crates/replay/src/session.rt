@@ -58,6 +58,11 @@ impl Session {
         }
     }
 
+    // What is lent of both buffers.
+    fn lent(&self) -> Option<(&[u8], &[f32])> {
+        Some((self.verbs.lent()?, self.floats.lent()?))
+    }
+
     // The end of the current list or raw stream: its segments and, for a list, its record.
     pub fn end_stream(&self, rt: &impl Print) -> io::Result<()> {
         let (b, is_list) = match self.current {
@@ -65,10 +70,7 @@ impl Session {
             Current::List(b) => (b, true),
             Current::Raw(b) | Current::Asked(b) => (b, false),
         };
-        let Some(verbs) = self.verbs.lent() else {
-            return Ok(());
-        };
-        let Some(floats) = self.floats.lent() else {
+        let Some((verbs, floats)) = self.lent() else {
             return Ok(());
         };
         replies::write_stream(rt, b, verbs, floats, is_list)
@@ -175,20 +177,16 @@ impl Session {
 
     fn read_at(&mut self, rt: &impl Print, c: Cursor) -> Result<(), Refusal> {
         let b = self.asked()?;
-        if let Some(verbs) = self.verbs.lent() {
-            if let Some(floats) = self.floats.lent() {
-                answers::write_reading(rt, reader::read(b, verbs, floats, c))?;
-            }
+        if let Some((verbs, floats)) = self.lent() {
+            answers::write_reading(rt, reader::read(b, verbs, floats, c))?;
         }
         Ok(())
     }
 
     fn read_box(&mut self, rt: &impl Print) -> Result<(), Refusal> {
         let b = self.asked()?;
-        if let Some(verbs) = self.verbs.lent() {
-            if let Some(floats) = self.floats.lent() {
-                answers::write_box(rt, reader::bounds(b, verbs, floats))?;
-            }
+        if let Some((verbs, floats)) = self.lent() {
+            answers::write_box(rt, reader::bounds(b, verbs, floats))?;
         }
         Ok(())
     }

@@ -87,10 +87,6 @@ pub fn report(file: &[u8], out: &mut [u8; 393288]) -> usize
             touch::places(&file, &mut places.touched);
             put_lines(&file, &places, out)
         }
-        Err(broken) => report_line::put_line(
-            Line::Broken(usize::from(broken.number()), broken.offset),
-            out,
-            0,
-        ),
+        Err(broken) => report_line::put_line(Line::from(broken), out, 0),
     }
 }

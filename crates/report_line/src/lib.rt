@@ -13,18 +13,18 @@ ghost use Rattle.report_line.specs.Line.{Added, newline, numbered, line_of};
 ghost use Rattle.report_line.specs.Text.{text_of, Over};
 ghost use Rattle.report_line.specs.Records.{none_before, lines_at, lines_by};
 
-use panel_file::{Counts, PanelFile, Record};
+use panel_file::{Broken, Counts, PanelFile, Record};
 
 // A line has at most 72 bytes and a record at least 12, so a file of 65,536 bytes has a report of
-// at most 6 times its length, and the last line.
+// at most 6 times its length, and the last line. An array of the largest size and no Vec: the library has no heap.
 pub const ROOM: usize = 393288;
 
 #[derive(Drop)]
 pub enum Line {
     // A button's index, and the verbs and points of its outline.
     Shape(usize, usize, usize),
-    // Stays a number: the definitions (`Outcome`, `Answer`) know a cause by its number alone, so a line of
-    // `ShapeError` or `Broken` had no value at their other numbers.
+    // A cause stays a number, here and in `Broken`: the definitions (`Outcome`, `Answer`) know it by its number alone,
+    // so a line of `ShapeError` or of panel_file's `Broken` had no value at their other numbers.
     // The index of a button whose shape is refused, and the cause's number.
     Refused(usize, usize),
     // The index of the button that a touch goes to.
@@ -38,6 +38,14 @@ pub enum Line {
     Apart(usize),
     // A broken file: the cause's number and the offset.
     Broken(usize, usize),
+}
+
+impl From<Broken> for Line {
+    ghost from_gives = { λ b l. l ≡ Line.Broken 7 b.offset };
+
+    fn from(broken: Broken) -> Line {
+        Line::Broken(usize::from(broken.number()), broken.offset)
+    }
 }
 
 fn word(out: &mut [u8; 72], at: usize, text: &[u8]) -> usize

@@ -6,6 +6,7 @@ use shape::RoundSuperellipse;
 use std::fmt;
 use text::Spelled;
 
+// Not the `Place` of replies, which has a blank in front: shapes takes nothing else from that crate.
 #[derive(Clone, Copy)]
 struct Place(Point);
 

@@ -8,8 +8,8 @@ fn digit(b: u8) -> Option<u64>
     ensures { result ≡ digit_of b }
 {
     match b {
-        b'0'..=b'9' => Some((b - b'0') as u64),
-        b'a'..=b'f' => Some((b - b'a') as u64 + 10),
+        b'0'..=b'9' => Some(u64::from(b - b'0')),
+        b'a'..=b'f' => Some(u64::from(b - b'a') + 10),
         _ => None,
     }
 }

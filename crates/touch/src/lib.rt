@@ -17,7 +17,7 @@ use geometry::Point;
 use panel_file::{Broken, Button, PanelFile, Record};
 use shape::{Bounds, CornerRadii, RoundSuperellipse, ShapeError};
 
-// The most touches that a file of 65,536 bytes holds.
+// The most touches that a file of 65,536 bytes holds. An array of the largest size and no Vec: the library has no heap.
 pub const MOST_TOUCHES: usize = 5461;
 
 // Stays a number: the exported call lends numbers for the results, and this one says that a touch goes nowhere.
@@ -28,12 +28,14 @@ pub const NOWHERE: u32 = 0xffff_ffff;
 pub fn shape_of(button: Button) -> Result<RoundSuperellipse, ShapeError>
     ensures { outcome_of result ≡ shape_of button }
 {
-    let min = button.min;
-    let max = button.max;
-    let top_left = button.top_left;
-    let top_right = button.top_right;
-    let bottom_left = button.bottom_left;
-    let bottom_right = button.bottom_right;
+    let Button {
+        min,
+        max,
+        top_left,
+        top_right,
+        bottom_left,
+        bottom_right,
+    } = button;
     RoundSuperellipse::new(
         Bounds { min, max },
         CornerRadii {
@@ -75,7 +77,8 @@ fn settled(found: u32, index: u32, shape: RoundSuperellipse, arcs: Arcs, p: Poin
     NOWHERE
 }
 
-// A shape is looked at for every touch.
+// A shape is looked at for every touch. Points and results side by side, here and below, and no struct of both: what slices
+// that were lent to a struct's fields hold afterwards is not known to the check.
 fn mark(shape: RoundSuperellipse, index: u32, points: &[f32], results: &mut [u32])
     requires { length points.now ≡ 2 * length results.old }
     ensures { results.new ≡ marked (contains_of shape) index (points_in points.now) results.old }
@@ -105,9 +108,8 @@ fn consider(
     ensures value { result ≡ index + 1 }
     ensures results_after { results.new ≡ marked (takes (outcome_of made)) index (points_in points.now) results.old }
 {
-    match made {
-        Ok(shape) => mark(shape, index, points, results),
-        Err(_) => {}
+    if let Ok(shape) = made {
+        mark(shape, index, points, results);
     }
     index + 1
 }

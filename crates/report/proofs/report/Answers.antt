@@ -28,6 +28,6 @@ returns-in-Err c =
     let o = c.in-Err.broken.offset in
     let e : text_of (report_of c.args.file.now) ≡ line_of (Broken 7 o) =
     ap (λ (x : Answer (List Record)). text_of (reported x)) (sym c.in-Err.ensures) ∙ one_line (Broken 7 o) in
-    let put = rw (c.from.ensures, c.number.ensures) at c.put_line.ensures.over in
+    let put = rw c.from.ensures at c.put_line.ensures.over in
     let w = all_over _ _ _ _ put in
     rw e (record { prefix_len = c.put_line.ensures.upper_bound.1; value = w.0; out_after = w.1 })
