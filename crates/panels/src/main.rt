@@ -23,7 +23,8 @@ fn put_field(part: &mut Part, word: &[u8]) -> Option<()> {
     part.try_extend_from_slice(&bytes[..length]).ok()
 }
 
-// The bytes of all fields of a line.
+// The bytes of all fields of a line. The loop is that of operands' `read`, around another step: a function of both would take
+// the step as a closure that fills another array.
 fn part_of(words: &[u8]) -> Option<Part> {
     let mut part = Part::new();
     let mut rest = words;
