@@ -35,7 +35,8 @@ pub fn read_all<R: Read>(input: &mut R, file: &mut [u8]) -> io::Result<usize>
 }
 
 // What a program does that reports on a file: reads all of the input, has `report` put its text into the
-// room, which tells how long it is, and writes it. Of an input that cannot be read to its end it says so alone.
+// room, which tells how long it is, and writes it. Of an input that cannot be read to its end it says so alone. Arrays of
+// the largest size and no Vec: there is no heap.
 pub fn run<R: Read, F: FnOnce(&[u8], &mut [u8; 393288]) -> usize>(
     rt: &(impl Print + Eprint),
     input: &mut R,

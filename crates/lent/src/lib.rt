@@ -11,7 +11,8 @@ use calls::{BuildError, Call};
 use geometry::Point;
 use stream::Builder;
 
-// Each makes the by-value call, and stores the record that comes back. A refusal leaves the record.
+// Each makes the by-value call, and stores the record that comes back. A refusal leaves the record. Three thin functions, as
+// document 01 names them, and no generic one.
 pub fn move_to(
     b: &mut Builder,
     verbs: &mut [u8],

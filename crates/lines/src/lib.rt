@@ -1,5 +1,5 @@
-// An input line by line, through two buffers that the caller lends: one for a piece of the input, one for a
-// line. `main` hands in standard input; no contract can say what is read there.
+// An input line by line, through two buffers that the caller lends, since there is no heap: one for a piece of the input, one
+// for a line. `main` hands in standard input; no contract can say what is read there.
 
 #![tactic(auto)]
 
