@@ -4,11 +4,10 @@
 #![tactic(auto)]
 
 ghost use Rattle.std.specs.Prelude.{◌≡◌, true, false, ◌+◌, ◌*◌, ◌<◌, ◌≤◌, length};
-ghost use Rattle.geometry.specs.Point.{sub_of, div_of};
 ghost use Rattle.octant.specs.Octant.{point};
 ghost use Rattle.containment.specs.Contains.{norm_contains, round_contains, corner_contains_of};
 ghost use Rattle.stream.specs.Stream.{put};
-ghost use Rattle.ffi_shape.specs.Layout.{point_floats, octant_floats, quadrant_floats, shape_floats, point_at, octant_at, quadrant_at, shape_at, bounds_at, radii_at};
+ghost use Rattle.ffi_shape.specs.Layout.{octant_floats, quadrant_floats, shape_floats, octant_at, quadrant_at, shape_at, bounds_at, radii_at};
 ghost use Rattle.ffi_shape.specs.Making.{left, make_of, corners_hold, holds_of};
 
 use ffi::WRONG_LENGTH;
@@ -146,14 +145,6 @@ pub fn shackletongue_shape(sizes: &[f32], shape: &mut [f32]) -> u32
     }
 }
 
-// A point in the space of the k-th corner.
-fn norm_point(shape: &[f32; 89], k: usize, p: Point) -> Point
-    requires { k < 4 }
-    ensures { result ≡ div_of (sub_of p (point_at shape.now (22 * k))) (point_at shape.now (22 * k + 2)) }
-{
-    (p - point_at(shape, 22 * k)) / point_at(shape, 22 * k + 2)
-}
-
 // Whether the k-th corner holds a point in its own space. Called from several places, it is compiled apart from
 // them, and reads the floats that it needs.
 fn norm_holds(shape: &[f32; 89], k: usize, x: f32, y: f32) -> bool
@@ -169,7 +160,7 @@ fn corner_holds(shape: &[f32; 89], k: usize, p: Point) -> bool
     requires { k < 4 }
     ensures { result ≡ corner_contains_of (quadrant_at shape.now (22 * k)) p true }
 {
-    let n = norm_point(shape, k, p);
+    let n = (p - point_at(shape, 22 * k)) / point_at(shape, 22 * k + 2);
     if n.x < 0.0 {
         return true;
     }
@@ -205,7 +196,7 @@ fn same_holds(shape: &[f32; 89], p: Point) -> bool
     ensures { result ≡ corner_contains_of (quadrant_at shape.now 0) p false }
 {
     let corner = quadrant_at(shape, 0);
-    let n = norm_point(shape, 0, p).abs();
+    let n = ((p - corner.offset) / corner.signed_scale).abs();
     if corner.is_square() {
         return norm_holds(shape, 0, n.x, n.y);
     }
