@@ -74,6 +74,7 @@ fn take_lines(rt: &impl Print, lines: &[u8]) -> io::Result<()> {
 }
 
 fn main(rt: HostRuntime) -> io::Result<()> {
+    // The text is one array and how much of it is held: `fill` fills a lent buffer, and there is no heap.
     let mut lines = [0u8; 131072];
     // What a read that fails leaves unread is no line.
     let (n, _) = input::fill(&mut rt.stdin(), &mut lines);
