@@ -9,7 +9,7 @@ use Rattle.ieee.specs.Sqrt.{sqrt_of}
 use Rattle.geometry.specs.declared.Point.{Point}
 use Rattle.geometry.specs.Point.{one, add_of, sub_of, scale_of, shrink_of, length_squared_of, length_of, finite_point}
 use Rattle.conic.specs.declared.Conic.{Conic}
-use Rattle.conic.specs.declared.Halves as code
+use Rattle.conic.specs.declared.Subdivision.{Subdivision}
 use Rattle.conic.specs.declared.Lowered.{Lowered}
 use Rattle.conic.specs.declared.Lowered.TheVariants.{Line, Curve}
 
@@ -117,9 +117,9 @@ split_of c =
       right = record { from = mid; ctrl = right; to = c.to; weight = weight };
     }
 
--- the halves of c that the code has
-abbrev pub halves_of : Conic → code.Halves → Halves
-halves_of c h = record {
-  left = record { from = c.from; ctrl = h.left_ctrl; to = h.mid; weight = h.weight };
-  right = record { from = h.mid; ctrl = h.right_ctrl; to = c.to; weight = h.weight };
+-- the halves of c that a subdivision has, with the weight u
+abbrev pub halves_of : Conic → Subdivision → Float → Halves
+halves_of c s u = record {
+  left = record { from = c.from; ctrl = s.left_ctrl; to = s.mid; weight = u };
+  right = record { from = s.mid; ctrl = s.right_ctrl; to = c.to; weight = u };
 }

@@ -4,7 +4,7 @@
 #![tactic(auto)]
 
 ghost use Rattle.std.specs.Prelude.{◌≡◌, ℕ, ◌≤◌, length};
-ghost use Rattle.conic.specs.Conic.{conic_at, is_line, lower_of, conic_mid, quad_mid, distance_of, chord_of, near_one_of, near_of, flat_of, split_of, halves_of};
+ghost use Rattle.conic.specs.Conic.{conic_at, is_line, lower_of, conic_mid, quad_mid, distance_of, chord_of, near_one_of, near_of, flat_of, half_weight_of, split_of, halves_of};
 ghost use Rattle.conic.specs.Halving.{is_one_quad, halve, count_of};
 
 use geometry::Point;
@@ -17,16 +17,12 @@ pub struct Conic {
     pub weight: f32,
 }
 
-// Both halves of a conic: the one goes from its start to `mid`, the other from `mid` to its target; and whether each is
-// drawn as one quad.
+// A conic's middle and the controls of its halves.
 #[derive(Drop)]
-pub struct Halves {
+pub struct Subdivision {
     pub left_ctrl: Point,
     pub mid: Point,
     pub right_ctrl: Point,
-    pub weight: f32,
-    pub left_is_quad: bool,
-    pub right_is_quad: bool,
 }
 
 // What a conic is drawn as: one line, or the quads of a curve.
@@ -98,7 +94,7 @@ pub fn is_near_one(w: f32) -> bool
 // that both halves of a conic are compared side by side. What is called at each halving takes a conic's floats one by
 // one: a record would go through memory at each call.
 #[tactic(auto, unfolding(crate::specs::Conic::near_of, geometry::specs::Point::length_of))]
-fn is_near(x0: f32, y0: f32, x1: f32, y1: f32, x2: f32, y2: f32, w: f32) -> bool
+pub fn is_near(x0: f32, y0: f32, x1: f32, y1: f32, x2: f32, y2: f32, w: f32) -> bool
     ensures { result ≡ near_of (distance_of (conic_at x0 y0 x1 y1 x2 y2 w)) (chord_of (conic_at x0 y0 x1 y1 x2 y2 w)) }
 {
     let c = Conic {
@@ -123,31 +119,32 @@ pub fn is_flat(c: Conic) -> bool
         )
 }
 
-// Both halves of a conic, at its middle parameter, each of which may be halved d times. Both are compared before
-// anything is decided, so that the one need not wait for the other.
-pub fn subdivide(x0: f32, y0: f32, x1: f32, y1: f32, x2: f32, y2: f32, w: f32, d: usize) -> Halves
-    ensures halves { halves_of (conic_at x0 y0 x1 y1 x2 y2 w) result ≡ split_of (conic_at x0 y0 x1 y1 x2 y2 w) }
-    ensures left_quad { result.left_is_quad ≡ is_one_quad d (halves_of (conic_at x0 y0 x1 y1 x2 y2 w) result).left }
-    ensures right_quad { result.right_is_quad ≡ is_one_quad d (halves_of (conic_at x0 y0 x1 y1 x2 y2 w) result).right }
+// The weight of both halves of a conic.
+#[tactic(auto, unfolding(crate::specs::Conic::half_weight_of))]
+pub fn half_weight(w: f32) -> f32
+    ensures { result ≡ half_weight_of w }
+{
+    ieee::sqrt((1.0 + w) * 0.5)
+}
+
+// Both halves of a conic, at its middle parameter.
+#[tactic(auto, unfolding(crate::specs::Conic::split_of))]
+pub fn subdivide(x0: f32, y0: f32, x1: f32, y1: f32, x2: f32, y2: f32, w: f32) -> Subdivision
+    ensures { halves_of (conic_at x0 y0 x1 y1 x2 y2 w) result (half_weight_of w) ≡ split_of (conic_at x0 y0 x1 y1 x2 y2 w) }
 {
     let from = Point { x: x0, y: y0 };
     let ctrl = Point { x: x1, y: y1 };
     let to = Point { x: x2, y: y2 };
     let scale = 1.0 / (1.0 + w);
     let weighted = ctrl * w;
-    let a = (from + weighted) * scale;
-    let b = (weighted + to) * scale;
+    let left_ctrl = (from + weighted) * scale;
+    let right_ctrl = (weighted + to) * scale;
     let sum = from + ctrl * (2.0 * w) + to;
-    let m = sum * (0.5 * scale);
-    let u = ieee::sqrt((1.0 + w) * 0.5);
-    let last = (d == 0) | is_near_one(u);
-    Halves {
-        left_ctrl: a,
-        mid: m,
-        right_ctrl: b,
-        weight: u,
-        left_is_quad: last | is_near(x0, y0, a.x, a.y, m.x, m.y, u),
-        right_is_quad: last | is_near(m.x, m.y, b.x, b.y, x2, y2, u),
+    let mid = sum * (0.5 * scale);
+    Subdivision {
+        left_ctrl,
+        mid,
+        right_ctrl,
     }
 }
 
@@ -170,13 +167,14 @@ fn count_quads(
         return 1;
     }
     let d = depth - 1;
-    let h = subdivide(x0, y0, x1, y1, x2, y2, w, d);
+    let h = subdivide(x0, y0, x1, y1, x2, y2, w);
     let a = h.left_ctrl;
     let m = h.mid;
     let b = h.right_ctrl;
-    let u = h.weight;
-    let l = h.left_is_quad;
-    let r = h.right_is_quad;
+    let u = half_weight(w);
+    let last = (d == 0) | is_near_one(u);
+    let l = last | is_near(x0, y0, a.x, a.y, m.x, m.y, u);
+    let r = last | is_near(m.x, m.y, b.x, b.y, x2, y2, u);
     count_quads(x0, y0, a.x, a.y, m.x, m.y, u, d, l)
         + count_quads(m.x, m.y, b.x, b.y, x2, y2, u, d, r)
 }

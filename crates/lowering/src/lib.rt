@@ -112,13 +112,14 @@ fn push_conic(
         return;
     }
     let d = depth - 1;
-    let h = conic::subdivide(x0, y0, x1, y1, x2, y2, w, d);
+    let h = conic::subdivide(x0, y0, x1, y1, x2, y2, w);
     let a = h.left_ctrl;
     let m = h.mid;
     let b = h.right_ctrl;
-    let u = h.weight;
-    let l = h.left_is_quad;
-    let r = h.right_is_quad;
+    let u = conic::half_weight(w);
+    let last = (d == 0) | conic::is_near_one(u);
+    let l = last | conic::is_near(x0, y0, a.x, a.y, m.x, m.y, u);
+    let r = last | conic::is_near(m.x, m.y, b.x, b.y, x2, y2, u);
     let next = start + (1 << d);
     if l & r {
         put_quad(points, at, word, a.x, a.y, m.x, m.y, start);

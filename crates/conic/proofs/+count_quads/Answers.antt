@@ -6,6 +6,7 @@ use lib.ListN.{length, length-append}
 use lib.Pow.{pow_mono}
 use Rattle.conic.specs.Conic.{conic_at, halves_of}
 use Rattle.conic.specs.Halving.{halve}
+use Rattle.conic.proofs.Flat.{quad_is}
 use Rattle.conic.proofs.Halving.{halve_one, halve_two, split_some}
 use Rattle.conic.proofs.Whole.{halve-few}
 use Rattle.conic.proofs.+count_quads.Goals as goal
@@ -22,18 +23,18 @@ pub count_quads-requires : goal.count_quads-requires
 count_quads-requires t c =
     let a = c.args in
     let some : 0 < a.depth = split_some a.depth (conic_at a.x0 a.y0 a.x1 a.y1 a.x2 a.y2 a.w) (sym c.requires.1 ∙ c.if-one.false) in
-    (omega (arith, c.decreases), (omega (arith, c.requires.0), c.subdivide-h.ensures.left_quad))
+    (omega (arith, c.decreases), (omega (arith, c.requires.0), quad_is (a.depth - 1) _ c.is_near_one.ensures c.is_near.ensures))
 
 pub count_quads-requires-2 : goal.count_quads-requires-2
 count_quads-requires-2 t c =
     let a = c.args in
     let some : 0 < a.depth = split_some a.depth (conic_at a.x0 a.y0 a.x1 a.y1 a.x2 a.y2 a.w) (sym c.requires.1 ∙ c.if-one.false) in
-    (omega (arith, c.decreases), (omega (arith, c.requires.0), c.subdivide-h.ensures.right_quad))
+    (omega (arith, c.decreases), (omega (arith, c.requires.0), quad_is (a.depth - 1) _ c.is_near_one.ensures c.is_near-2.ensures))
 
 pub overflow_add-result : goal.overflow_add-result
 overflow_add-result t c =
     let a = c.args in
-    let h = halves_of (conic_at a.x0 a.y0 a.x1 a.y1 a.x2 a.y2 a.w) c.subdivide-h.result in
+    let h = halves_of (conic_at a.x0 a.y0 a.x1 a.y1 a.x2 a.y2 a.w) c.subdivide-h.result c.half_weight-u.result in
     let d = a.depth - 1 in
     let h6 : d ≤ 6 = omega (arith, c.requires.0) in
     let k : 2 ^ d ≤ 2 ^ 6 = pow_mono h6 in
@@ -43,9 +44,9 @@ pub returns : goal.returns
 returns t c start =
     let a = c.args in
     let k = conic_at a.x0 a.y0 a.x1 a.y1 a.x2 a.y2 a.w in
-    let h = halves_of k c.subdivide-h.result in
+    let h = halves_of k c.subdivide-h.result c.half_weight-u.result in
     let d = a.depth - 1 in
     let l = halve d h.left start in
     let r = halve d h.right (start + 2 ^ d) in
-    let e : halve a.depth k start ≡ l ++ r = halve_two a.depth k h start (sym c.requires.1 ∙ c.if-one.false) c.subdivide-h.ensures.halves in
+    let e : halve a.depth k start ≡ l ++ r = halve_two a.depth k h start (sym c.requires.1 ∙ c.if-one.false) (ap (halves_of k c.subdivide-h.result) c.half_weight-u.ensures ∙ c.subdivide-h.ensures) in
     omega (arith, c.count_quads.ensures start, c.count_quads-2.ensures (start + 2 ^ d), ap length e, length-append l r)
