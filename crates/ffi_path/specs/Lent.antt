@@ -33,6 +33,7 @@ places_of b = b.start.x ∷ b.start.y ∷ b.pen.x ∷ b.pen.y ∷ []
 unfoldable pub fitting : ℕ → ℕ → Bool
 fitting counts places = eqb counts 3 && eqb places 4
 
+-- the lengths of slices that hold a record
 abbrev pub HoldsRecord : List ℕ → List Float → Type 0
 HoldsRecord counts places = (length counts ≡ 3) × (length places ≡ 4)
 
