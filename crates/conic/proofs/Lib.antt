@@ -4,6 +4,7 @@ pub mod Tiling
 pub mod Bits
 pub mod Whole
 mod Weight
+pub mod Vectors
 pub mod Flat
 pub mod Margins
 mod Squares

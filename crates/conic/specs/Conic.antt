@@ -9,7 +9,6 @@ use Rattle.ieee.specs.Sqrt.{sqrt_of}
 use Rattle.geometry.specs.declared.Point.{Point}
 use Rattle.geometry.specs.Point.{one, add_of, sub_of, scale_of, shrink_of, length_squared_of, length_of, finite_point}
 use Rattle.conic.specs.declared.Conic.{Conic}
-use Rattle.conic.specs.declared.Subdivision.{Subdivision}
 use Rattle.conic.specs.declared.Lowered.{Lowered}
 use Rattle.conic.specs.declared.Lowered.TheVariants.{Line, Curve}
 
@@ -28,10 +27,6 @@ quarter = of_bits binary32 0x3e80_0000
 
 abbrev pub thousandth : Float
 thousandth = of_bits binary32 0x3a83_126f
-
--- a conic by its floats: start, control, target and weight
-abbrev pub conic_at : Float → Float → Float → Float → Float → Float → Float → Conic
-conic_at x0 y0 x1 y1 x2 y2 w = record { from = record { x = x0; y = y0 }; ctrl = record { x = x1; y = y1 }; to = record { x = x2; y = y2 }; weight = w }
 
 -- a weight not finite or at most 0, or a control or target not finite; the pen, c.from, is not tested
 unfoldable pub is_line : Conic → Bool
@@ -116,10 +111,3 @@ split_of c =
       left = record { from = c.from; ctrl = left; to = mid; weight = weight };
       right = record { from = mid; ctrl = right; to = c.to; weight = weight };
     }
-
--- the halves of c that a subdivision has, with the weight u
-abbrev pub halves_of : Conic → Subdivision → Float → Halves
-halves_of c s u = record {
-  left = record { from = c.from; ctrl = s.left_ctrl; to = s.mid; weight = u };
-  right = record { from = s.mid; ctrl = s.right_ctrl; to = c.to; weight = u };
-}

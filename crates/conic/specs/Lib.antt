@@ -1,3 +1,4 @@
 pub mod Conic
 pub mod Halving
 pub mod Spans
+pub mod Vectors

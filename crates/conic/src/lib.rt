@@ -3,11 +3,15 @@
 
 #![tactic(auto)]
 
-ghost use Rattle.std.specs.Prelude.{◌≡◌, ℕ, ◌≤◌, length};
-ghost use Rattle.conic.specs.Conic.{conic_at, is_line, lower_of, conic_mid, quad_mid, distance_of, chord_of, near_one_of, near_of, flat_of, half_weight_of, split_of, halves_of};
+ghost use Rattle.std.specs.Prelude.{◌≡◌, ℕ, ◌≤◌, length, map};
+ghost use Rattle.std.specs.Float.{binary32};
+ghost use Rattle.ieee.specs.Sqrt.{sqrt_of};
+ghost use Rattle.conic.specs.Vectors.{point_in, twice, conic_in, halves_in};
+ghost use Rattle.conic.specs.Conic.{is_line, lower_of, conic_mid, quad_mid, distance_of, chord_of, near_one_of, near_of, flat_of, half_weight_of, Halves, split_of};
 ghost use Rattle.conic.specs.Halving.{is_one_quad, halve, count_of};
 
 use geometry::Point;
+use std::simd::prelude::*;
 
 #[derive(Clone, Copy)]
 pub struct Conic {
@@ -17,12 +21,20 @@ pub struct Conic {
     pub weight: f32,
 }
 
-// A conic's middle and the controls of its halves.
-#[derive(Drop)]
+// Both halves of a conic, side by side: a vector holds a point of the left half and then one of the right. `left` has
+// where each half starts, which is the left half's start and end, and `right` where each ends.
+#[derive(Clone, Copy)]
 pub struct Subdivision {
-    pub left_ctrl: Point,
-    pub mid: Point,
-    pub right_ctrl: Point,
+    pub left: f32x4,
+    pub ctrls: f32x4,
+    pub right: f32x4,
+}
+
+// Which of two halves are one quad by their middles.
+#[derive(Drop)]
+pub struct Nearness {
+    pub left: bool,
+    pub right: bool,
 }
 
 // What a conic is drawn as: one line, or the quads of a curve.
@@ -90,22 +102,12 @@ pub fn is_near_one(w: f32) -> bool
     (over <= 0.001) & (-0.001 <= over)
 }
 
-// Whether the middles of the conic and of the quad are near each other, measured by a chord above 0. No branch, so
-// that both halves of a conic are compared side by side. What is called at each halving takes a conic's floats one by
-// one: a record would go through memory at each call.
-#[tactic(auto, unfolding(crate::specs::Conic::near_of, geometry::specs::Point::length_of))]
-pub fn is_near(x0: f32, y0: f32, x1: f32, y1: f32, x2: f32, y2: f32, w: f32) -> bool
-    ensures { result ≡ near_of (distance_of (conic_at x0 y0 x1 y1 x2 y2 w)) (chord_of (conic_at x0 y0 x1 y1 x2 y2 w)) }
+// The root of each.
+fn roots(x: f32x4) -> f32x4
+    ensures { result ≡ map (sqrt_of binary32) x }
 {
-    let c = Conic {
-        from: Point { x: x0, y: y0 },
-        ctrl: Point { x: x1, y: y1 },
-        to: Point { x: x2, y: y2 },
-        weight: w,
-    };
-    let chord = (c.to - c.from).length();
-    let distance = (conic_mid(c) - quad_mid(c)).length();
-    (chord > 0.0) & (distance <= 0.001 * chord)
+    let [a, b, c, d] = x.to_array();
+    f32x4::from_array([ieee::sqrt(a), ieee::sqrt(b), ieee::sqrt(c), ieee::sqrt(d)])
 }
 
 // Whether one quad is near enough to a conic.
@@ -113,10 +115,11 @@ pub fn is_near(x0: f32, y0: f32, x1: f32, y1: f32, x2: f32, y2: f32, w: f32) -> 
 pub fn is_flat(c: Conic) -> bool
     ensures { result ≡ flat_of c }
 {
-    is_near_one(c.weight)
-        || is_near(
-            c.from.x, c.from.y, c.ctrl.x, c.ctrl.y, c.to.x, c.to.y, c.weight,
-        )
+    if is_near_one(c.weight) {
+        return true;
+    }
+    let chord = (c.to - c.from).length();
+    chord > 0.0 && (conic_mid(c) - quad_mid(c)).length() <= 0.001 * chord
 }
 
 // The weight of both halves of a conic.
@@ -127,56 +130,73 @@ pub fn half_weight(w: f32) -> f32
     ieee::sqrt((1.0 + w) * 0.5)
 }
 
-// Both halves of a conic, at its middle parameter.
+// Both halves of a conic from and to the points in `ends`, at its middle parameter; `ctrl` begins with its control.
 #[tactic(auto, unfolding(crate::specs::Conic::split_of))]
-pub fn subdivide(x0: f32, y0: f32, x1: f32, y1: f32, x2: f32, y2: f32, w: f32) -> Subdivision
-    ensures { halves_of (conic_at x0 y0 x1 y1 x2 y2 w) result (half_weight_of w) ≡ split_of (conic_at x0 y0 x1 y1 x2 y2 w) }
+pub fn subdivide(ends: f32x4, ctrl: f32x4, w: f32) -> Subdivision
+    ensures { halves_in result.left result.ctrls result.right (half_weight_of w) ≡ split_of (conic_in ends ctrl w) }
 {
-    let from = Point { x: x0, y: y0 };
-    let ctrl = Point { x: x1, y: y1 };
-    let to = Point { x: x2, y: y2 };
+    let from = ends.swizzle([0, 1, 0, 1]);
+    let to = ends.swizzle([2, 3, 2, 3]);
+    let twice = ctrl.swizzle([0, 1, 0, 1]);
     let scale = 1.0 / (1.0 + w);
-    let weighted = ctrl * w;
-    let left_ctrl = (from + weighted) * scale;
-    let right_ctrl = (weighted + to) * scale;
-    let sum = from + ctrl * (2.0 * w) + to;
-    let mid = sum * (0.5 * scale);
+    let weighted = twice * f32x4::splat(w);
+    let outer = ends.shuffle(weighted, [0, 1, 4, 5]) + weighted.shuffle(ends, [0, 1, 6, 7]);
+    let sum = from + twice * f32x4::splat(2.0 * w) + to;
+    let mid = sum * f32x4::splat(0.5 * scale);
     Subdivision {
-        left_ctrl,
-        mid,
-        right_ctrl,
+        left: ends.shuffle(mid, [0, 1, 4, 5]),
+        ctrls: outer * f32x4::splat(scale),
+        right: mid.shuffle(ends, [0, 1, 6, 7]),
     }
 }
 
+// Whether the middles of each half and of its quad are near each other, measured by a chord above 0.
+#[tactic(auto, unfolding(crate::specs::Conic::near_of))]
+pub fn is_near(left: f32x4, ctrls: f32x4, right: f32x4, u: f32) -> Nearness
+    requires { point_in left 2 ≡ point_in right 0 }
+    ensures { (h : Halves) → h ≡ halves_in left ctrls right u → (result.left ≡ near_of (distance_of h.left) (chord_of h.left)) × (result.right ≡ near_of (distance_of h.right) (chord_of h.right)) }
+{
+    let sum = left + ctrls * f32x4::splat(2.0 * u) + right;
+    let conic_mid = sum / f32x4::splat(2.0 * (1.0 + u));
+    let quad_mid = (left + ctrls * f32x4::splat(2.0) + right) * f32x4::splat(0.25);
+    let apart = conic_mid - quad_mid;
+    let chord = right - left;
+    let d = apart * apart;
+    let c = chord * chord;
+    let squares = d.shuffle(c, [0, 2, 4, 6]) + d.shuffle(c, [1, 3, 5, 7]);
+    let lengths = roots(squares);
+    let chords = lengths.swizzle([2, 3, 2, 3]);
+    let near = lengths.simd_le(f32x4::splat(0.001) * chords) & f32x4::splat(0.0).simd_lt(chords);
+    let bits = near.to_bitmask();
+    Nearness {
+        left: bits % 2 == 1,
+        right: (bits >> 1) % 2 == 1,
+    }
+}
+
+// The second of two points, twice: the control of the right half, where a conic has its own.
+pub fn second(v: f32x4) -> f32x4
+    ensures { result ≡ twice (point_in v 2) }
+{
+    v.swizzle([2, 3, 2, 3])
+}
+
 // How many quads at most `depth` halvings leave of a conic, wherever its span starts; `one` tells whether it is one.
-fn count_quads(
-    x0: f32,
-    y0: f32,
-    x1: f32,
-    y1: f32,
-    x2: f32,
-    y2: f32,
-    w: f32,
-    depth: usize,
-    one: bool,
-) -> usize
-    requires { (depth ≤ 6) × (one ≡ is_one_quad depth (conic_at x0 y0 x1 y1 x2 y2 w)) }
-    ensures { (start : ℕ) → result ≡ length (halve depth (conic_at x0 y0 x1 y1 x2 y2 w) start) }
+fn count_quads(ends: f32x4, ctrl: f32x4, w: f32, depth: usize, one: bool) -> usize
+    requires { (depth ≤ 6) × (one ≡ is_one_quad depth (conic_in ends ctrl w)) }
+    ensures { (start : ℕ) → result ≡ length (halve depth (conic_in ends ctrl w) start) }
 {
     if one {
         return 1;
     }
     let d = depth - 1;
-    let h = subdivide(x0, y0, x1, y1, x2, y2, w);
-    let a = h.left_ctrl;
-    let m = h.mid;
-    let b = h.right_ctrl;
+    let h = subdivide(ends, ctrl, w);
     let u = half_weight(w);
+    let right_ctrl = second(h.ctrls);
     let last = (d == 0) | is_near_one(u);
-    let l = last | is_near(x0, y0, a.x, a.y, m.x, m.y, u);
-    let r = last | is_near(m.x, m.y, b.x, b.y, x2, y2, u);
-    count_quads(x0, y0, a.x, a.y, m.x, m.y, u, d, l)
-        + count_quads(m.x, m.y, b.x, b.y, x2, y2, u, d, r)
+    let near = is_near(h.left, h.ctrls, h.right, u);
+    count_quads(h.left, h.ctrls, u, d, last | near.left)
+        + count_quads(h.right, right_ctrl, u, d, last | near.right)
 }
 
 // How many quads a conic is drawn as: 1 to 64.
@@ -185,7 +205,7 @@ pub fn count(c: Conic) -> usize
     ensures { result ≡ count_of c }
 {
     let flat = is_flat(c);
-    count_quads(
-        c.from.x, c.from.y, c.ctrl.x, c.ctrl.y, c.to.x, c.to.y, c.weight, MAX_DEPTH, flat,
-    )
+    let ends = f32x4::from_array([c.from.x, c.from.y, c.to.x, c.to.y]);
+    let ctrl = f32x4::from_array([c.ctrl.x, c.ctrl.y, c.ctrl.x, c.ctrl.y]);
+    count_quads(ends, ctrl, c.weight, MAX_DEPTH, flat)
 }

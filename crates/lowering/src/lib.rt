@@ -4,7 +4,8 @@
 #![tactic(auto)]
 
 ghost use Rattle.std.specs.Prelude.{◌≡◌, false, ◌∷◌, [], ◌+◌, ◌*◌, ◌^◌, ◌<◌, ◌≤◌, length, replicate};
-ghost use Rattle.conic.specs.Conic.{conic_at, flat_of};
+ghost use Rattle.conic.specs.Conic.{flat_of};
+ghost use Rattle.conic.specs.Vectors.{point_in, conic_in};
 ghost use Rattle.conic.specs.Halving.{is_one_quad, halve, word_of, pieces_of, count_of};
 ghost use Rattle.stream.specs.Stream.{put, all_floats, state, push, push_all, Fits};
 ghost use Rattle.lowering.specs.Entries.{elements_of, quads_of, lowered_of, joint_word, plainly_written, builder_at};
@@ -12,6 +13,7 @@ ghost use Rattle.lowering.specs.Quads.{HasRoom, Lowers};
 
 use conic::{Conic, Lowered, MAX_DEPTH};
 use geometry::Point;
+use std::simd::prelude::*;
 use stream::{Builder, Element};
 
 // The record after a conic, and its joint word.
@@ -60,22 +62,22 @@ fn push_piece(
     Marks { count: 1, word: 1 }
 }
 
-// A quad's points from point `at` on, and the bit where it starts.
+// The points of a quad with the first point of `ctrl` and to the second one of `ends`, from point `at` on, and the bit
+// where it starts.
 fn put_quad(
     points: &mut [f32],
     at: &mut usize,
     word: &mut u64,
-    x1: f32,
-    y1: f32,
-    x2: f32,
-    y2: f32,
+    ctrl: f32x4,
+    ends: f32x4,
     start: usize,
 )
     requires { (start < 64) × (2 * (at.old + 2) ≤ length points.old) × (word.old + 2 ^ start < 2 ^ 64) }
-    ensures points_after { points.new ≡ put points.old (2 * at.old) (x1 ∷ y1 ∷ x2 ∷ y2 ∷ []) }
+    ensures points_after { points.new ≡ put points.old (2 * at.old) ((point_in ctrl 0).x ∷ (point_in ctrl 0).y ∷ (point_in ends 2).x ∷ (point_in ends 2).y ∷ []) }
     ensures at_after { (at.new ≡ at.old + 2) × (word.new ≡ word.old + 2 ^ start) }
 {
     let i = 2 * *at;
+    let [x1, y1, x2, y2] = ctrl.shuffle(ends, [0, 1, 6, 7]).to_array();
     points[i] = x1;
     points[i + 1] = y1;
     points[i + 2] = x2;
@@ -86,48 +88,42 @@ fn put_quad(
 
 // The quads of a conic, their points from point `at` on, and the bits where they start; `one` tells whether it is one.
 // Halving calls itself, twice for each split, with the depth still allowed falling from 6. Most often both halves are
-// one quad each: then neither call is made. A conic's floats go one by one, since a record would go through memory at each
-// call.
+// one quad each: then neither call is made. The conic runs from and to the points in `ends`; `ctrl` begins with its control.
 fn push_conic(
     points: &mut [f32],
     at: &mut usize,
     word: &mut u64,
-    x0: f32,
-    y0: f32,
-    x1: f32,
-    y1: f32,
-    x2: f32,
-    y2: f32,
+    ends: f32x4,
+    ctrl: f32x4,
     w: f32,
     depth: usize,
     start: usize,
     one: bool,
 )
-    requires { (one ≡ is_one_quad depth (conic_at x0 y0 x1 y1 x2 y2 w)) × (depth ≤ 6) × (start + 2 ^ depth ≤ 64) × HasRoom (halve depth (conic_at x0 y0 x1 y1 x2 y2 w) start) points.old at.old word.old }
-    ensures points_after { points.new ≡ put points.old (2 * at.old) (all_floats (quads_of (halve depth (conic_at x0 y0 x1 y1 x2 y2 w) start))) }
-    ensures at_after { (at.new ≡ at.old + 2 * length (halve depth (conic_at x0 y0 x1 y1 x2 y2 w) start)) × (word.new ≡ word.old + word_of (halve depth (conic_at x0 y0 x1 y1 x2 y2 w) start)) }
+    requires { (one ≡ is_one_quad depth (conic_in ends ctrl w)) × (depth ≤ 6) × (start + 2 ^ depth ≤ 64) × HasRoom (halve depth (conic_in ends ctrl w) start) points.old at.old word.old }
+    ensures points_after { points.new ≡ put points.old (2 * at.old) (all_floats (quads_of (halve depth (conic_in ends ctrl w) start))) }
+    ensures at_after { (at.new ≡ at.old + 2 * length (halve depth (conic_in ends ctrl w) start)) × (word.new ≡ word.old + word_of (halve depth (conic_in ends ctrl w) start)) }
 {
     if one {
-        put_quad(points, at, word, x1, y1, x2, y2, start);
+        put_quad(points, at, word, ctrl, ends, start);
         return;
     }
     let d = depth - 1;
-    let h = conic::subdivide(x0, y0, x1, y1, x2, y2, w);
-    let a = h.left_ctrl;
-    let m = h.mid;
-    let b = h.right_ctrl;
+    let h = conic::subdivide(ends, ctrl, w);
     let u = conic::half_weight(w);
+    let right_ctrl = conic::second(h.ctrls);
     let last = (d == 0) | conic::is_near_one(u);
-    let l = last | conic::is_near(x0, y0, a.x, a.y, m.x, m.y, u);
-    let r = last | conic::is_near(m.x, m.y, b.x, b.y, x2, y2, u);
+    let near = conic::is_near(h.left, h.ctrls, h.right, u);
+    let l = last | near.left;
+    let r = last | near.right;
     let next = start + (1 << d);
     if l & r {
-        put_quad(points, at, word, a.x, a.y, m.x, m.y, start);
-        put_quad(points, at, word, b.x, b.y, x2, y2, next);
+        put_quad(points, at, word, h.ctrls, h.left, start);
+        put_quad(points, at, word, right_ctrl, h.right, next);
         return;
     }
-    push_conic(points, at, word, x0, y0, a.x, a.y, m.x, m.y, u, d, start, l);
-    push_conic(points, at, word, m.x, m.y, b.x, b.y, x2, y2, u, d, next, r);
+    push_conic(points, at, word, h.left, h.ctrls, u, d, start, l);
+    push_conic(points, at, word, h.right, right_ctrl, u, d, next, r);
 }
 
 // Four quads as verbs from v on.
@@ -196,9 +192,10 @@ fn push_curve(v: usize, p: usize, verbs: &mut [u8], points: &mut [f32], c: Conic
 {
     let mut at = p;
     let mut word = 0;
+    let ends = f32x4::from_array([c.from.x, c.from.y, c.to.x, c.to.y]);
+    let ctrl = f32x4::from_array([c.ctrl.x, c.ctrl.y, c.ctrl.x, c.ctrl.y]);
     push_conic(
-        points, &mut at, &mut word, c.from.x, c.from.y, c.ctrl.x, c.ctrl.y, c.to.x, c.to.y,
-        c.weight, MAX_DEPTH, 0, false,
+        points, &mut at, &mut word, ends, ctrl, c.weight, MAX_DEPTH, 0, false,
     );
     let count = (at - p) / 2;
     fill_quads(verbs, v, count);

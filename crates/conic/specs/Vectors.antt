@@ -1,0 +1,25 @@
+-- Conics in vectors of four floats, two points in each. Definitions only.
+use Rattle.std.specs.Prelude.{List, [], ◌∷◌, ℕ, ◌+◌, get_or, Float}
+use Rattle.std.specs.Float.{nan}
+use Rattle.geometry.specs.declared.Point.{Point}
+use Rattle.conic.specs.declared.Conic.{Conic}
+use Rattle.conic.specs.Conic.{Halves}
+
+-- the point whose coordinates stand at k and at k + 1
+abbrev pub point_in : List Float → ℕ → Point
+point_in v k = record { x = get_or v k nan; y = get_or v (k + 1) nan }
+
+-- a point that stands there twice
+abbrev pub twice : Point → List Float
+twice p = p.x ∷ p.y ∷ p.x ∷ p.y ∷ []
+
+-- a conic from the first to the second of two points; its control is the first point of another vector
+abbrev pub conic_in : List Float → List Float → Float → Conic
+conic_in ends ctrl w = record { from = point_in ends 0; ctrl = point_in ctrl 0; to = point_in ends 2; weight = w }
+
+-- two halves with the weight u: where they start and where the left one ends, their controls, and where they end and the right one starts
+abbrev pub halves_in : List Float → List Float → List Float → Float → Halves
+halves_in left ctrls right u = record {
+  left = conic_in left ctrls u;
+  right = record { from = point_in right 0; ctrl = point_in ctrls 2; to = point_in right 2; weight = u };
+}
