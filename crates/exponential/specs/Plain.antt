@@ -1,14 +1,15 @@
 -- Where exp and pow have no special case, and the last steps of ln and exp. Cited by the contracts of inner functions. Definitions only.
-use Rattle.std.specs.Prelude.{◌≡◌, Bool, not, ◌||◌, Float}
-use Rattle.std.specs.Float.{binary64}
-use Rattle.std.specs.Float.Ieee.{add, mul, lt, eq, ne}
+use Rattle.std.specs.Prelude.{◌≡◌, Bool, true, false, ◌&&◌, Float}
+use Rattle.std.specs.Float.{inf, binary64}
+use Rattle.std.specs.Float.Ieee.{add, mul, lt, ne}
 use Rattle.series.specs.Coefficients.{H, odd_reciprocal, factorial_reciprocal}
 use Rattle.exponential.specs.Constants.{two, ln2, hundred, lowest}
 use Rattle.exponential.specs.Logarithm.{ln_of}
-use Rattle.exponential.specs.Power.{zero, one, infinite}
+use Rattle.exponential.specs.Power.{zero, one}
 
+-- neither a NaN nor so far from 0 that exp is 0 or infinite
 unfoldable pub moderate : Float → Bool
-moderate t = not (ne t t || lt hundred t || lt t lowest)
+moderate t = lt lowest t && lt t hundred
 
 -- ln from s, e and the value h of the series
 abbrev pub log_of : Float → Float → Float → Float
@@ -22,5 +23,9 @@ SplitAt s e u = log_of s e (H odd_reciprocal (mul binary64 s s) 11) ≡ ln_of u
 unfoldable pub scaled_of : Float → Float → Float
 scaled_of r power = mul binary64 (H factorial_reciprocal r 13) power
 
-unfoldable pub plain : Float → Float → Bool
-plain b y = not (ne b b || ne y y || lt b zero || eq b one || eq y zero || eq b zero || (infinite b || infinite y))
+-- of these none of pow's rules but the last applies
+unfoldable pub plain_base : Float → Bool
+plain_base b = (lt zero b && lt b (inf false)) && ne b one
+
+unfoldable pub plain_exponent : Float → Bool
+plain_exponent y = (lt (inf true) y && lt y (inf false)) && ne y zero

@@ -3,7 +3,7 @@
 
 #![tactic(auto)]
 
-ghost use Rattle.std.specs.Prelude.{◌≡◌, map, All, Float, false, cond, T, pos, ◌+ℤ◌, ◌<◌, ◌^◌};
+ghost use Rattle.std.specs.Prelude.{◌≡◌, map, All, Float, false, cond, ◌&&◌, T, pos, ◌+ℤ◌, ◌<◌, ◌^◌};
 ghost use Rattle.std.specs.Float.Ieee.Positive.{positive};
 ghost use Rattle.std.specs.Float.{binary32, binary64, inf};
 ghost use Rattle.std.specs.Float.Ieee.{lt, ne, fits, of_int, minus};
@@ -13,7 +13,8 @@ ghost use Rattle.exponential.specs.Logarithm.{ln_at, ln_of};
 ghost use Rattle.exponential.specs.Exponential.{floor_of, within, exp_of};
 ghost use Rattle.exponential.specs.Power.{zero, infinite, main_of, pow_of};
 ghost use Rattle.std.specs.Simd.Lanes.{zip2};
-ghost use Rattle.exponential.specs.Plain.{SplitAt, moderate, scaled_of, plain};
+ghost use Rattle.std.specs.List.{list_all};
+ghost use Rattle.exponential.specs.Plain.{SplitAt, scaled_of, plain_base, plain_exponent};
 ghost use Rattle.exponential.specs.declared.Reduced.{Reduced};
 
 const LN2: f64 = 0.6931471805599453;
@@ -141,20 +142,12 @@ pub fn exp(t: f64) -> f64
     e
 }
 
-// Neither a NaN nor so far from 0 that exp is 0 or infinite.
-#[tactic(auto, unfolding(crate::specs::Plain::moderate))]
-pub fn is_moderate(t: f64) -> bool
-    ensures { result ≡ moderate t }
-{
-    !((t != t) | (t > 100.0) | (t < -110.0))
-}
-
 // In step where each is moderate.
 fn exponentials<const N: usize>(t: [f64; N]) -> [f64; N]
     requires { N < 2 ^ 59 }
     ensures { result ≡ map exp_of t.entry }
 {
-    if lanes::all(t, is_moderate) {
+    if lanes::all_between_f64(t, -110.0, 100.0) {
         return scaled(lanes::each(t, reduce));
     }
     lanes::each(t, exp)
@@ -218,13 +211,13 @@ pub fn pow(b: f32, y: f32) -> f32
     p
 }
 
-// Whether none of pow's rules but the last applies.
-#[tactic(auto, unfolding(crate::specs::Plain::plain))]
-pub fn is_plain(b: f32, y: f32) -> bool
-    ensures { result ≡ plain b y }
+// Whether of these none of pow's rules but the last applies.
+fn all_plain<const N: usize>(b: [f32; N], y: [f32; N]) -> bool
+    ensures { result ≡ (list_all plain_base b.entry && list_all plain_exponent y.entry) }
 {
-    let infinite = is_infinite(b) | is_infinite(y);
-    !((b != b) | (y != y) | (b < 0.0) | (b == 1.0) | (y == 0.0) | (b == 0.0) | infinite)
+    let base = lanes::all_between(b, 0.0, 1.0 / 0.0) & lanes::all_differ(b, 1.0);
+    let exponent = lanes::all_between(y, -1.0 / 0.0, 1.0 / 0.0) & lanes::all_differ(y, 0.0);
+    base & exponent
 }
 
 // The powers of N bases, each by the exponent at its place. They go in step where none is a special case, so that none waits for another.
@@ -232,7 +225,7 @@ pub fn powers<const N: usize>(b: [f32; N], y: [f32; N]) -> [f32; N]
     requires { N < 2 ^ 59 }
     ensures { result ≡ zip2 pow_of b.entry y.entry }
 {
-    if lanes::all(lanes::pairwise(b, y, is_plain), |p| p) {
+    if all_plain(b, y) {
         return main_powers(b, y);
     }
     lanes::pairwise(b, y, pow)

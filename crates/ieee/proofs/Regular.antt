@@ -1,9 +1,10 @@
 -- What `regular` tells of a number: its size, and so the exponent in its pattern. Assumes nothing.
-use Rattle.std.proofs.Common.{◌≡◌, ℕ, zero, suc, ◌+◌, ◌*◌, ◌/◌, ◌%◌, ◌^◌, ◌<◌, ◌≤◌, Bool, true, false, cond, not, ◌&&◌, ◌||◌, T, eqb, ltb, leb, pos, negsuc, sym, refl, subst, le_trans, le_of_eq, lt_of_lt_of_le, le_of_lt, mul-le-mul, mul-lt-mul_of_pos_right, lt_of_not-le, mul-one, not-le_of_lt, arith, eqb→eq, ltb→lt, pow_pos, pow_mono, shl_lt}
-use lib.Ieee.{Float, nan, inf, fin, binary64, up, down, odd, below, level, neg, lt, le, fits, is_nan, to_bits, of_bits, of_fields}
+use Rattle.std.proofs.Common.{◌≡◌, ℕ, zero, suc, ◌+◌, ◌*◌, ◌/◌, ◌%◌, ◌^◌, ◌<◌, ◌≤◌, Bool, true, false, cond, not, T, eqb, leb, pos, negsuc, sym, refl, subst, le_trans, le_of_eq, lt_of_lt_of_le, le_of_lt, mul-le-mul, mul-lt-mul_of_pos_right, lt_of_not-le, mul-one, not-le_of_lt, arith, ltb→lt, pow_pos, pow_mono, shl_lt}
+use lib.Ieee.{Float, nan, inf, fin, binary64, up, down, odd, lt, fits, is_nan, to_bits, of_bits, of_fields}
 use lib.Ieee.Exact.{HasValue, odd_sign}
-use lib.Ieee.Fits.{and_l, down_pos}
+use lib.Ieee.Fits.{down_pos}
 use lib.Ieee.Order.{transfer}
+use Rattle.ieee.specs.Basic.{abs_of}
 use Rattle.ieee.specs.Narrow.{regular}
 use Rattle.ieee.proofs.Tests.{both}
 use Rattle.ieee.proofs.Narrowing.{fields_of}
@@ -18,23 +19,6 @@ Within (fin s m e) = (1 * down e ≤ m * up e * 2 ^ 126) × (m * up e * 1 < 2 ^ 
 yes : (b : Bool) → b ≡ true → T b
 yes b e = subst T (sym e) tt
 
-either : {X : Type 0} (p q : Bool) → (T p → X) → (T q → X) → T (p || q) → X
-either true q f g h = f tt
-either false q f g h = g h
-
--- what is not below a number from zero on is no smaller, and neither is what is not above one below zero
-not-below : (s : Bool) (a b : ℕ) → T (below false a s b || level false a s b) → a ≤ b
-not-below false a b t = either (ltb a b) (eqb a b && true) (λ u. le_of_lt (ltb→lt a b u)) (λ u. le_of_eq (eqb→eq a b (and_l (eqb a b) true u))) t
-not-below true a b t = le_of_eq (eqb→eq a b (and_l (eqb a b) (eqb a 0) t))
-
-not-above : (s : Bool) (a b : ℕ) → T (below s b true a || level s b true a) → a ≤ b
-not-above true a b t = either (ltb a b) (eqb b a && true) (λ u. le_of_lt (ltb→lt a b u)) (λ u. le_of_eq (sym (eqb→eq b a (and_l (eqb b a) true u)))) t
-not-above false a b t = le_of_eq (sym (eqb→eq b a (and_l (eqb b a) (eqb b 0) t)))
-
-between : (s : Bool) (a b : ℕ) → T (below s a false b) → T (below true b s a) → a < b
-between false a b p q = ltb→lt a b p
-between true a b p q = ltb→lt a b q
-
 -- ---- the two bounds, 2 ^ -126 and 2 ^ 128
 abbrev least : Float
 least = fin false 1 (negsuc 125)
@@ -42,23 +26,19 @@ least = fin false 1 (negsuc 125)
 abbrev bound : Float
 bound = fin false 1 (pos 128)
 
-tests_within : (x : Float) → T (le least x || le x (neg least)) → T (lt x bound) → T (lt (neg bound) x) → Within x
-unfolding le lt neg
-tests_within nan a b c = absurd b
-tests_within (inf true) a b c = absurd c
-tests_within (inf false) a b c = absurd b
-tests_within (fin s m e) a b c =
-    let n = m * up e in (
-      either (le least (fin s m e)) (le (fin s m e) (neg least)) (not-below s (1 * down e) (n * 2 ^ 126)) (not-above s (1 * down e) (n * 2 ^ 126)) a,
-      between s (n * 1) (2 ^ 128 * down e) b c,
-    )
+tests_within : (x : Float) → T (lt least (abs_of x)) → T (lt (abs_of x) bound) → Within x
+unfolding lt abs_of
+tests_within nan a b = absurd a
+tests_within (inf s) a b = absurd b
+tests_within (fin s m e) a b =
+    let n = m * up e in
+    (le_of_lt (ltb→lt (1 * down e) (n * 2 ^ 126) a), ltb→lt (n * 1) (2 ^ 128 * down e) b)
 
 regular-within : (x : Float) → regular x ≡ true → Within x
 unfolding regular of_bits
 regular-within x h =
-    let outer = both ((le least x || le x (neg least)) && lt x bound) (lt (neg bound) x) h in
-    let inner = both (le least x || le x (neg least)) (lt x bound) outer.0 in
-    tests_within x (yes (le least x || le x (neg least)) inner.0) (yes (lt x bound) inner.1) (yes (lt (neg bound) x) outer.1)
+    let each = both (lt least (abs_of x)) (lt (abs_of x) bound) h in
+    tests_within x (yes (lt least (abs_of x)) each.0) (yes (lt (abs_of x) bound) each.1)
 
 pub regular-number : (x : Float) → regular x ≡ true → T (not (is_nan x))
 regular-number x h = number x (regular-within x h)

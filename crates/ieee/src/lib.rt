@@ -142,17 +142,8 @@ pub fn narrow(x: f64) -> f32
     f32::from_bits(((bits >> 63) * 0x8000_0000 + p) as u32)
 }
 
-// Whether the f32 nearest to x is told by rounding x's pattern: x is from 2^-126, the least normal f32, to below 2^128 in
-// size. So no NaN is, and no infinity. The tests are joined by & and |, which do not branch.
-#[tactic(auto, unfolding(crate::specs::Narrow::regular))]
-pub fn is_regular(x: f64) -> bool
-    ensures { result ≡ regular x }
-{
-    let normal = (1.1754943508222875e-38 <= x) | (x <= -1.1754943508222875e-38);
-    normal & (x < 3.402823669209385e38) & (-3.402823669209385e38 < x)
-}
-
-// `narrow` of such a number: no branch, so that several go side by side.
+// `narrow` of a number above 2^-126, the least normal f32, and below 2^128 in size, so of no NaN and no infinity: the nearest
+// f32 is told by rounding x's pattern, with no branch, so that several go side by side.
 pub fn narrow_regular(x: f64) -> f32
     requires { regular x ≡ true }
     ensures { result ≡ narrow_of x }

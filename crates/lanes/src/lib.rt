@@ -3,11 +3,14 @@
 
 #![tactic(auto)]
 
-ghost use Rattle.std.specs.Prelude.{◌≡◌, ◌<◌, map, All, Bool, slice_index_or};
+ghost use Rattle.std.specs.Prelude.{◌≡◌, ◌<◌, ◌&&◌, map, All, Bool, Float, slice_index_or};
+ghost use Rattle.std.specs.Float.Ieee.{lt, ne};
 ghost use Rattle.std.specs.List.{AllZip, list_all};
 ghost use Rattle.std.specs.Simd.Lanes.{zip2};
 ghost use Rattle.ieee.specs.Basic.{widen_of};
 ghost use Rattle.ieee.specs.Narrow.{narrow_of};
+
+use std::simd::prelude::*;
 
 // What f makes of each. Not the array's own `map`, which asks more of callers: that an iterator over the array fits in memory.
 pub fn each<A: Copy, B, F: Fn(A) -> B, const N: usize>(x: [A; N], f: F) -> [B; N]
@@ -54,6 +57,35 @@ pub fn all<A: Copy, F: Fn(A) -> bool, const N: usize>(x: [A; N], f: F) -> bool
     all
 }
 
+// Whether each is above `low` and below `high`; a NaN is not. By vectors: the compiler takes booleans in arrays apart and puts
+// them together again one by one.
+pub fn all_between<const N: usize>(x: [f32; N], low: f32, high: f32) -> bool
+    ensures { result ≡ list_all (λ (a : Float). lt low a && lt a high) x.entry }
+{
+    let v = Simd::<f32, N>::from_array(x);
+    let above = Simd::<f32, N>::splat(low).simd_lt(v);
+    let below = v.simd_lt(Simd::<f32, N>::splat(high));
+    (above & below).to_simd().reduce_and() < 0
+}
+
+// The same of numbers of twice the width: vectors of either are types of their own.
+pub fn all_between_f64<const N: usize>(x: [f64; N], low: f64, high: f64) -> bool
+    ensures { result ≡ list_all (λ (a : Float). lt low a && lt a high) x.entry }
+{
+    let v = Simd::<f64, N>::from_array(x);
+    let above = Simd::<f64, N>::splat(low).simd_lt(v);
+    let below = v.simd_lt(Simd::<f64, N>::splat(high));
+    (above & below).to_simd().reduce_and() < 0
+}
+
+// Whether none is this number.
+pub fn all_differ<const N: usize>(x: [f32; N], number: f32) -> bool
+    ensures { result ≡ list_all (λ (a : Float). ne a number) x.entry }
+{
+    let differ = Simd::<f32, N>::from_array(x).simd_ne(Simd::<f32, N>::splat(number));
+    differ.to_simd().reduce_and() < 0
+}
+
 pub fn widen<const N: usize>(x: [f32; N]) -> [f64; N]
     ensures { result ≡ map widen_of x.entry }
 {
@@ -64,7 +96,8 @@ pub fn widen<const N: usize>(x: [f32; N]) -> [f64; N]
 pub fn narrow<const N: usize>(x: [f64; N]) -> [f32; N]
     ensures { result ≡ map narrow_of x.entry }
 {
-    if all(x, ieee::is_regular) {
+    let sizes = each(x, ieee::abs_f64);
+    if all_between_f64(sizes, 1.1754943508222875e-38, 3.402823669209385e38) {
         return each(x, ieee::narrow_regular);
     }
     each(x, ieee::narrow)

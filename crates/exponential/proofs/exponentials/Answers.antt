@@ -8,7 +8,8 @@ use Rattle.exponential.proofs.Plains.{moderate-is}
 use Rattle.exponential.proofs.exponentials.Goals as goal
 
 pub each-requires : goal.each-requires
-each-requires g c = (omega arith, (omega arith, λ k d l. moderate-is _ (AllPass-from_list_all moderate c.args.t (sym (c.all.ensures moderate (λ a b e. e)) ∙ c.if-all.true) k d l)))
+unfolding moderate
+each-requires g c = (omega arith, (omega arith, λ k d l. moderate-is _ (AllPass-from_list_all moderate c.args.t (sym c.all_between_f64.ensures ∙ c.if-all_between_f64.true) k d l)))
 
-pub returns-then-all : goal.returns-then-all
-returns-then-all g c = c.scaled.ensures ∙ map-along_AllZip _ _ exp_of (λ a b r. r) _ _ c.each.ensures.values
+pub returns-then-all_between_f64 : goal.returns-then-all_between_f64
+returns-then-all_between_f64 g c = c.scaled.ensures ∙ map-along_AllZip _ _ exp_of (λ a b r. r) _ _ c.each.ensures.values

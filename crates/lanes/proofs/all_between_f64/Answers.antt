@@ -1,0 +1,7 @@
+use native.Mathlib.Omega.{arith}
+use lib.Ieee.{lt}
+use Rattle.lanes.proofs.Masks.{between_64}
+use Rattle.lanes.proofs.all_between_f64.Goals as goal
+
+pub returns : goal.returns
+returns g c = between_64 lt lt c.args.low c.args.high c.args.x g.row.N (omega arith)
