@@ -12,7 +12,7 @@ use lib.Ieee.{Float, nan}
 use Rattle.geometry.specs.declared.Point.{Point}
 use Rattle.conic.specs.declared.Conic.{Conic}
 use Rattle.conic.specs.Conic.{Halves, half_weight_of, split_of}
-use Rattle.conic.specs.Vectors.{point_in, twice, conic_in, halves_in}
+use Rattle.conic.specs.Vectors.{point_in, pair, conic_in, halves_in}
 
 pub four_lanes : (xs : List Float) → length xs ≡ 4 → xs ≡ get_or xs 0 nan ∷ get_or xs 1 nan ∷ get_or xs 2 nan ∷ get_or xs 3 nan ∷ []
 four_lanes [] e = absurd (omega (arith, e))
@@ -91,8 +91,12 @@ halves_meet c l k r u e = ap (λ (h : Halves). h.left.to) e ∙ sym (ap (λ (h :
 abbrev pub halves_with : List Float → List Float → List Float → List Float → Float → Halves
 halves_with l k r b u = record { left = conic_in l k u; right = conic_in r b u }
 
-pub halves_are : (l k r b : List Float) (u : Float) → b ≡ twice (point_in k 2) → halves_with l k r b u ≡ halves_in l k r u
+pub halves_are : (l k r b : List Float) (u : Float) → b ≡ pair (point_in k 2) (point_in k 2) → halves_with l k r b u ≡ halves_in l k r u
 halves_are l k r b u e = ap (λ (v : List Float). halves_with l k r v u) e
 
-pub halves_split : (c : Conic) (l k r b : List Float) (u : Float) → halves_in l k r (half_weight_of c.weight) ≡ split_of c → u ≡ half_weight_of c.weight → b ≡ twice (point_in k 2) → halves_with l k r b u ≡ split_of c
+pub halves_split : (c : Conic) (l k r b : List Float) (u : Float) → halves_in l k r (half_weight_of c.weight) ≡ split_of c → u ≡ half_weight_of c.weight → b ≡ pair (point_in k 2) (point_in k 2) → halves_with l k r b u ≡ split_of c
 halves_split c l k r b u e w t = halves_are l k r b u t ∙ ap (halves_in l k r) w ∙ e
+
+-- a conic is what its own vectors hold
+pub of_pairs : (c : Conic) (e k : List Float) → e ≡ pair c.from c.to → k ≡ pair c.ctrl c.ctrl → conic_in e k c.weight ≡ c
+of_pairs c e k p q = ap₂ (λ (e k : List Float). conic_in e k c.weight) p q

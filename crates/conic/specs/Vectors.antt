@@ -9,9 +9,9 @@ use Rattle.conic.specs.Conic.{Halves}
 abbrev pub point_in : List Float → ℕ → Point
 point_in v k = record { x = get_or v k nan; y = get_or v (k + 1) nan }
 
--- a point that stands there twice
-abbrev pub twice : Point → List Float
-twice p = p.x ∷ p.y ∷ p.x ∷ p.y ∷ []
+-- two points
+abbrev pub pair : Point → Point → List Float
+pair p q = p.x ∷ p.y ∷ q.x ∷ q.y ∷ []
 
 -- a conic from the first to the second of two points; its control is the first point of another vector
 abbrev pub conic_in : List Float → List Float → Float → Conic

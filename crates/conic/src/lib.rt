@@ -6,7 +6,7 @@
 ghost use Rattle.std.specs.Prelude.{◌≡◌, ℕ, ◌≤◌, length, map};
 ghost use Rattle.std.specs.Float.{binary32};
 ghost use Rattle.ieee.specs.Sqrt.{sqrt_of};
-ghost use Rattle.conic.specs.Vectors.{point_in, twice, conic_in, halves_in};
+ghost use Rattle.conic.specs.Vectors.{point_in, pair, conic_in, halves_in};
 ghost use Rattle.conic.specs.Conic.{is_line, lower_of, conic_mid, quad_mid, distance_of, chord_of, near_one_of, near_of, flat_of, half_weight_of, Halves, split_of};
 ghost use Rattle.conic.specs.Halving.{is_one_quad, halve, count_of};
 
@@ -130,6 +130,32 @@ pub fn half_weight(w: f32) -> f32
     ieee::sqrt((1.0 + w) * 0.5)
 }
 
+// A conic in two vectors, and its weight beside them: start and target, and the control twice.
+pub fn ends(c: Conic) -> f32x4
+    ensures { result ≡ pair c.from c.to }
+{
+    f32x4::from_array([c.from.x, c.from.y, c.to.x, c.to.y])
+}
+
+pub fn ctrl(c: Conic) -> f32x4
+    ensures { result ≡ pair c.ctrl c.ctrl }
+{
+    f32x4::from_array([c.ctrl.x, c.ctrl.y, c.ctrl.x, c.ctrl.y])
+}
+
+pub fn of_vectors(ends: f32x4, ctrl: f32x4, weight: f32) -> Conic
+    ensures { result ≡ conic_in ends ctrl weight }
+{
+    let [x0, y0, x2, y2] = ends.to_array();
+    let [x1, y1, _, _] = ctrl.to_array();
+    Conic {
+        from: Point { x: x0, y: y0 },
+        ctrl: Point { x: x1, y: y1 },
+        to: Point { x: x2, y: y2 },
+        weight,
+    }
+}
+
 // Both halves of a conic from and to the points in `ends`, at its middle parameter; `ctrl` begins with its control.
 #[tactic(auto, unfolding(crate::specs::Conic::split_of))]
 pub fn subdivide(ends: f32x4, ctrl: f32x4, w: f32) -> Subdivision
@@ -176,7 +202,7 @@ pub fn is_near(left: f32x4, ctrls: f32x4, right: f32x4, u: f32) -> Nearness
 
 // The second of two points, twice: the control of the right half, where a conic has its own.
 pub fn second(v: f32x4) -> f32x4
-    ensures { result ≡ twice (point_in v 2) }
+    ensures { result ≡ pair (point_in v 2) (point_in v 2) }
 {
     v.swizzle([2, 3, 2, 3])
 }
@@ -205,7 +231,5 @@ pub fn count(c: Conic) -> usize
     ensures { result ≡ count_of c }
 {
     let flat = is_flat(c);
-    let ends = f32x4::from_array([c.from.x, c.from.y, c.to.x, c.to.y]);
-    let ctrl = f32x4::from_array([c.ctrl.x, c.ctrl.y, c.ctrl.x, c.ctrl.y]);
-    count_quads(ends, ctrl, c.weight, MAX_DEPTH, flat)
+    count_quads(ends(c), ctrl(c), c.weight, MAX_DEPTH, flat)
 }

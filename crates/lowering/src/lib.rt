@@ -186,32 +186,62 @@ fn fill_quads(verbs: &mut [u8], v: usize, n: usize)
 }
 
 // The quads of a conic that is more than one, as verbs from v on and points from p on.
-fn push_curve(v: usize, p: usize, verbs: &mut [u8], points: &mut [f32], c: Conic) -> Marks
-    requires { (flat_of c ≡ false) × (v + count_of c ≤ length verbs.old) × (2 * (p + 2 * count_of c) ≤ length points.old) }
-    ensures { Lowers result v p c verbs.old points.old verbs.new points.new }
+fn push_curve(
+    v: usize,
+    p: usize,
+    verbs: &mut [u8],
+    points: &mut [f32],
+    ends: f32x4,
+    ctrl: f32x4,
+    w: f32,
+) -> Marks
+    requires { (flat_of (conic_in ends ctrl w) ≡ false) × (v + count_of (conic_in ends ctrl w) ≤ length verbs.old) × (2 * (p + 2 * count_of (conic_in ends ctrl w)) ≤ length points.old) }
+    ensures { Lowers result v p (conic_in ends ctrl w) verbs.old points.old verbs.new points.new }
 {
     let mut at = p;
     let mut word = 0;
-    let ends = f32x4::from_array([c.from.x, c.from.y, c.to.x, c.to.y]);
-    let ctrl = f32x4::from_array([c.ctrl.x, c.ctrl.y, c.ctrl.x, c.ctrl.y]);
     push_conic(
-        points, &mut at, &mut word, ends, ctrl, c.weight, MAX_DEPTH, 0, false,
+        points, &mut at, &mut word, ends, ctrl, w, MAX_DEPTH, 0, false,
     );
     let count = (at - p) / 2;
     fill_quads(verbs, v, count);
     Marks { count, word }
 }
 
-// The quads of a conic as verbs from v on and points from p on, for which there is room. Neither start nor
-// pen of a record has a part in it.
-fn push_quads(v: usize, p: usize, verbs: &mut [u8], points: &mut [f32], c: Conic) -> Marks
-    requires { (v + count_of c ≤ length verbs.old) × (2 * (p + 2 * count_of c) ≤ length points.old) }
-    ensures { Lowers result v p c verbs.old points.old verbs.new points.new }
+// The quads of a conic as verbs from v on and points from p on, for which there is room. Neither start nor pen of a record
+// has a part in it. What comes and goes are vectors and numbers, which stay in registers: a record of floats would be
+// stored one by one and read two by two, for which a processor waits.
+fn push_quads(
+    v: usize,
+    p: usize,
+    verbs: &mut [u8],
+    points: &mut [f32],
+    ends: f32x4,
+    ctrl: f32x4,
+    w: f32,
+) -> Marks
+    requires { (v + count_of (conic_in ends ctrl w) ≤ length verbs.old) × (2 * (p + 2 * count_of (conic_in ends ctrl w)) ≤ length points.old) }
+    ensures { Lowers result v p (conic_in ends ctrl w) verbs.old points.old verbs.new points.new }
 {
+    let c = conic::of_vectors(ends, ctrl, w);
     if conic::is_flat(c) {
         return push_piece(v, p, verbs, points, c.ctrl, c.to);
     }
-    push_curve(v, p, verbs, points, c)
+    push_curve(v, p, verbs, points, ends, ctrl, w)
+}
+
+// The record behind so many quads, the last of which ends at `to`.
+fn after_quads(b: Builder, count: usize, to: Point) -> Builder
+    requires { (b.verbs + count < 2 ^ 64) × (b.points + 2 * count < 2 ^ 64) }
+    ensures { result ≡ record { verbs = b.verbs + count; points = b.points + 2 * count; start = b.start; pen = to } }
+{
+    let start = b.start;
+    Builder {
+        verbs: b.verbs + count,
+        points: b.points + 2 * count,
+        start: start,
+        pen: to,
+    }
 }
 
 // What a conic is lowered to, behind the held elements, for which there is room.
@@ -229,18 +259,42 @@ pub fn push_lowered(b: Builder, verbs: &mut [u8], points: &mut [f32], l: Lowered
             }
         }
         Lowered::Curve(c) => {
-            let m = push_quads(b.verbs, b.points, verbs, points, c);
-            let start = b.start;
-            let to = c.to;
+            let m = push_quads(
+                b.verbs,
+                b.points,
+                verbs,
+                points,
+                conic::ends(c),
+                conic::ctrl(c),
+                c.weight,
+            );
             Written {
-                builder: Builder {
-                    verbs: b.verbs + m.count,
-                    points: b.points + 2 * m.count,
-                    start: start,
-                    pen: to,
-                },
+                builder: after_quads(b, m.count, c.to),
                 word: m.word,
             }
+        }
+    }
+}
+
+// The same where nobody asks for the joint word. It does not call `push_lowered`: `push_quads`, which has two callers, is
+// then compiled apart, and both of these in place.
+pub fn push_unmarked(b: Builder, verbs: &mut [u8], points: &mut [f32], l: Lowered) -> Builder
+    requires { Fits b verbs.old points.old (elements_of (lowered_of l)) }
+    ensures { state result verbs.new points.new ≡ push_all (state b verbs.old points.old) (elements_of (lowered_of l)) }
+{
+    match l {
+        Lowered::Line(p) => stream::push(b, verbs, points, Element::Line(p)),
+        Lowered::Curve(c) => {
+            let m = push_quads(
+                b.verbs,
+                b.points,
+                verbs,
+                points,
+                conic::ends(c),
+                conic::ctrl(c),
+                c.weight,
+            );
+            after_quads(b, m.count, c.to)
         }
     }
 }

@@ -51,9 +51,7 @@ fn push_conic(b: Builder, verbs: &mut [u8], points: &mut [f32], arc: ConicArc) -
         to: to,
         weight: arc.weight,
     });
-    let w = lowering::push_lowered(b, verbs, points, l);
-    let after = w.builder;
-    after
+    lowering::push_unmarked(b, verbs, points, l)
 }
 
 // An octant, a corner and an outline likewise.

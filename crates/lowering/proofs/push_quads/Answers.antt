@@ -1,28 +1,35 @@
-use mathlib.Core.Path.{sym, ap, ◌∙◌}
+use mathlib.Core.Path.{sym, ap, subst, ◌∙◌}
 use native.Mathlib.Omega.{arith}
 use Rattle.geometry.specs.declared.Point.{Point}
-use Rattle.conic.specs.Halving.{pieces_of}
+use Rattle.conic.specs.declared.Conic.{Conic}
+use Rattle.conic.specs.Conic.{flat_of}
+use Rattle.conic.specs.Halving.{pieces_of, count_of}
 use Rattle.conic.proofs.Halving.{halve_flat}
 use Rattle.stream.specs.Stream.{State, state, push_all}
 use Rattle.stream.proofs.Pushed.{push_all-one}
 use Rattle.lowering.specs.Entries.{builder_at}
+use Rattle.lowering.specs.Quads.{Lowers}
 use Rattle.lowering.proofs.Writing.{one-quad, count_is}
 use Rattle.lowering.proofs.push_quads.Goals as goal
 
 pub push_piece-requires : goal.push_piece-requires
 push_piece-requires c =
-    let a = c.args in
-    let h = one-quad (pieces_of a.c) a.c 0 _ (halve_flat 6 a.c 0 (sym c.is_flat.ensures ∙ c.if-is_flat.true)) in
     let s = c.requires in
-    (omega (arith, s.0, count_is a.c, h.many), omega (arith, s.1, count_is a.c, h.many))
+    let k = c.of_vectors-c.result in
+    let e = ap count_of c.of_vectors-c.ensures in
+    let h = one-quad (pieces_of k) k 0 _ (halve_flat 6 k 0 (sym c.is_flat.ensures ∙ c.if-is_flat.true)) in
+    (omega (arith, s.0, e, count_is k, h.many), omega (arith, s.1, e, count_is k, h.many))
 
 pub push_curve-requires : goal.push_curve-requires
-push_curve-requires c = (sym c.is_flat.ensures ∙ c.if-is_flat.false, c.requires.0, c.requires.1)
+push_curve-requires c = (ap flat_of (sym c.of_vectors-c.ensures) ∙ sym c.is_flat.ensures ∙ c.if-is_flat.false, c.requires.0, c.requires.1)
 
 pub returns-then-is_flat : goal.returns-then-is_flat
 returns-then-is_flat c =
     let a = c.args in
-    let h = one-quad (pieces_of a.c) a.c 0 _ (halve_flat 6 a.c 0 (sym c.is_flat.ensures ∙ c.if-is_flat.true)) in
+    let k = c.of_vectors-c.result in
+    let h = one-quad (pieces_of k) k 0 _ (halve_flat 6 k 0 (sym c.is_flat.ensures ∙ c.if-is_flat.true)) in
     let e = c.push_piece.ensures in
     let s : Point → Point → State = λ from pen. state (builder_at a.v a.p from pen) a.verbs.now a.points.now in
-    (λ from pen. e.points_after from pen ∙ sym (ap (push_all (s from pen)) h.quads ∙ push_all-one (s from pen) _), e.count_value.0 ∙ sym h.many, e.count_value.1 ∙ sym h.word)
+    let r : Lowers c.push_piece.result a.v a.p k a.verbs.now a.points.now c.push_piece.new.verbs c.push_piece.new.points =
+    (λ from pen. e.points_after from pen ∙ sym (ap (push_all (s from pen)) h.quads ∙ push_all-one (s from pen) _), e.count_value.0 ∙ sym h.many, e.count_value.1 ∙ sym h.word) in
+    subst (λ (k : Conic). Lowers c.push_piece.result a.v a.p k a.verbs.now a.points.now c.push_piece.new.verbs c.push_piece.new.points) c.of_vectors-c.ensures r

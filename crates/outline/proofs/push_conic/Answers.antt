@@ -7,9 +7,9 @@ use Rattle.corners.specs.Calls.{conic_call}
 use Rattle.outline.proofs.Pushed.{room-one, calls_one}
 use Rattle.outline.proofs.push_conic.Goals as goal
 
-pub push_lowered-w-requires : goal.push_lowered-w-requires
+pub push_unmarked-requires : goal.push_unmarked-requires
 unfolding entries_of
-push_lowered-w-requires c =
+push_unmarked-requires c =
     let a = c.args in
     let s : State = state a.b a.verbs.now a.points.now in
     subst (λ (l : Lowered). Fits a.b a.verbs.now a.points.now (elements_of (lowered_of l))) (sym c.lower-l.ensures) (room-one s (conic_call a.arc) c.requires)
@@ -19,4 +19,4 @@ unfolding entries_of
 returns c =
     let a = c.args in
     let s : State = state a.b a.verbs.now a.points.now in
-    calls_one s (conic_call a.arc) _ (c.push_lowered-w.ensures.points_after ∙ ap (λ (l : Lowered). push_all s (elements_of (lowered_of l))) c.lower-l.ensures)
+    calls_one s (conic_call a.arc) _ (c.push_unmarked.ensures ∙ ap (λ (l : Lowered). push_all s (elements_of (lowered_of l))) c.lower-l.ensures)
