@@ -23,12 +23,12 @@ const LN2: f64 = 0.6931471805599453;
 // to a whole number, and its pattern ends in that number, 1023 more.
 const BIAS: f64 = 6755399441056767.0;
 
-// b - 1023.
+// b - 1023. The pattern is that of 2^52 + b: made so, not by a conversion, several are made at once.
 fn unbiased(b: u64) -> f64
     requires { b < 4096 }
     ensures { result ≡ of_int binary64 (minus b 1023) }
 {
-    (b as u32) as f64 - 1023.0
+    f64::from_bits(0x4330_0000_0000_0000 + b) - 4503599627371519.0
 }
 
 // What ln is worked out from: u is f * 2^e, with f from 0.75 and below 1.5.
