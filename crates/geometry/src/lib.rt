@@ -4,10 +4,10 @@
 #![tactic(auto)]
 
 ghost use Rattle.std.specs.Prelude.{◌≡◌};
-ghost use Rattle.ieee.specs.Basic.{abs_of};
 ghost use Rattle.geometry.specs.Point.{add_of, sub_of, mul_of, div_of, scale_of, shrink_of, neg_of, abs_point, finite_point, length_squared_of, distance_squared_of, length_of, normalize_of};
 
 use std::ops::{Add, Div, Mul, Neg, Sub};
+use std::simd::prelude::*;
 
 #[derive(Clone, Copy, Debug, PartialEq)]
 pub struct Point {
@@ -114,27 +114,15 @@ impl Neg for Point {
     }
 }
 
-// As ieee's `abs`, by the greater of x and 0 - x: a processor takes the greater of both coordinates at once, and a NaN is not
-// set apart.
-fn magnitude(x: f32) -> f32
-    ensures { result ≡ abs_of x }
-{
-    let opposite = 0.0 - x;
-    if opposite < x {
-        return x;
-    }
-    opposite
-}
-
 impl Point {
-    #[tactic(auto, unfolding(crate::specs::Point::abs_point))]
+    // As ieee's `abs`, by the greater of v and 0 - v, of both coordinates in one vector: a NaN is not set apart.
     pub fn abs(self) -> Point
         ensures { result ≡ abs_point self }
     {
-        Point {
-            x: magnitude(self.x),
-            y: magnitude(self.y),
-        }
+        let v = f32x2::from_array([self.x, self.y]);
+        let opposite = f32x2::splat(0.0) - v;
+        let [x, y] = opposite.simd_lt(v).select(v, opposite).to_array();
+        Point { x, y }
     }
 
     #[tactic(auto, unfolding(crate::specs::Point::finite_point))]

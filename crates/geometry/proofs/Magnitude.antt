@@ -1,6 +1,6 @@
--- `geometry::magnitude` meets its contract: 0 - x is exact. Assumes nothing.
+-- The greater of x and 0 - x, which is exact, is x without its sign. Assumes nothing.
 use mathlib.Core.Path.{◌≡◌, refl, sym, ap, ◌∙◌, subst}
-use mathlib.Core.Bool.{Bool, true, false}
+use mathlib.Core.Bool.{Bool, true, false, cond}
 use Prim.Native.Nat.{ℕ, zero, suc, ◌+◌, ◌-◌, ◌*◌}
 use native.Mathlib.Nat.{zero-mul, mul-pos}
 use native.Mathlib.Omega.{arith}
@@ -8,14 +8,10 @@ use lib.Dec.{T, ltb, lt→ltb}
 use lib.IntN.{ℤ}
 use lib.Ieee.{Float, nan, inf, fin, binary32, of_bits, neg, add, sub, sum, lt, fits, round, up, down}
 use lib.Ieee.Bits.{is_true}
+use lib.Lanes.{top}
 use lib.Ieee.Fits.{up_pos, down_pos, neg-fits}
 use Rattle.ieee.specs.Basic.{abs_of}
 use Rattle.rounding.proofs.Meets.{round_own}
-use Rattle.geometry.proofs.magnitude.Goals as goal
-use Rattle.geometry.proofs.magnitude.Goals.{Start}
-
-held : (c : Start) → T (fits binary32 c.args.x)
-held c = subst T (sym c.well_formed.0.1) tt
 
 abbrev opposite : Float → Float
 opposite x = sub binary32 (of_bits binary32 0) x
@@ -65,8 +61,10 @@ not_greater (fin false (suc m) e) h t =
     let some = mul-pos (up_pos e) (down_pos e) in
     absurd (t (subst (λ (y : Float). T (lt y (fin false (suc m) e))) (sym (of_positive m e h)) (lt→ltb 0 (suc m * up e * down e + suc m * up e * down e) (omega arith))))
 
-pub returns-then-opposite-x : goal.returns-then-opposite-x
-returns-then-opposite-x c = greater c.args.x (held c.before) (subst T (sym c.if-opposite-x.true) tt)
-
-pub returns : goal.returns
-returns c = not_greater c.args.x (held c.before) (λ t. subst T c.if-opposite-x.false t)
+-- as a vector's lane has it
+pub chosen : (x : Float) → T (fits binary32 x) → cond (top 31 (cond (lt (opposite x) x) 0xffff_ffff 0)) x (opposite x) ≡ abs_of x
+chosen x h = pick (lt (opposite x) x) (greater x h) (not_greater x h)
+  where
+    pick : (b : Bool) → (T b → x ≡ abs_of x) → ((T b → T false) → opposite x ≡ abs_of x) → cond (top 31 (cond b 0xffff_ffff 0)) x (opposite x) ≡ abs_of x
+    pick true f g = f tt
+    pick false f g = g (λ t. t)
