@@ -56,11 +56,8 @@ fn is_line(c: Conic) -> bool
         if c.weight <= 0.0 {
             return true;
         }
-        if c.ctrl.is_finite() {
-            if c.to.is_finite() {
-                return false;
-            }
-        }
+        let places = [c.ctrl.x, c.ctrl.y, c.to.x, c.to.y];
+        return !lanes::all_between(places, -1.0 / 0.0, 1.0 / 0.0);
     }
     true
 }
