@@ -87,13 +87,13 @@ fn in_range(t: f32) -> bool
     -8.0 <= t && t <= 8.0
 }
 
-// An angle that has no sine becomes a NaN, whose sine and cosine are NaNs.
-#[tactic(auto, using(crate::proofs::Specials::nan32_is))]
-fn bounded(t: f32) -> f32
-    ensures { result ≡ cond (ne t t || lt eight (abs_of t)) nan t }
+// An angle, widened; one that has no sine becomes a NaN, whose sine and cosine are NaNs.
+#[tactic(auto, using(crate::proofs::Specials::nan64_is, crate::proofs::Range::widened), unfolding(ieee::specs::Basic::widen_of))]
+fn bounded(t: f32) -> f64
+    ensures { result ≡ cond (ne t t || lt eight (abs_of t)) nan (widen_of t) }
 {
     if in_range(t) {
-        return t;
+        return t as f64;
     }
     0.0 / 0.0
 }
@@ -102,16 +102,24 @@ fn bounded(t: f32) -> f32
 pub fn pairs_at<const N: usize>(t: [f32; N]) -> Pairs<N>
     ensures { result ≡ apart (map (λ x. pair_of (widen_of x)) t.entry) }
 {
-    sixteenfold(sixteenths(lanes::widen(lanes::each(t, bounded))))
+    sixteenfold(sixteenths(lanes::each(t, bounded)))
 }
 
+// By a branch, since one angle alone would wait for the choice that `bounded` makes.
+#[tactic(auto, using(crate::proofs::Specials::nan64_is, crate::proofs::Range::widened), unfolding(crate::specs::Sine::pair_of, ieee::specs::Basic::widen_of))]
 fn pair_at(t: f32) -> Pair
     ensures { result ≡ pair_of (widen_of t) }
 {
-    let p = pairs_at([t]);
-    let [s] = p.s;
-    let [c] = p.c;
-    Pair { s, c }
+    if in_range(t) {
+        let p = sixteenfold(sixteenths([t as f64]));
+        let [s] = p.s;
+        let [c] = p.c;
+        return Pair { s, c };
+    }
+    Pair {
+        s: 0.0 / 0.0,
+        c: 0.0 / 0.0,
+    }
 }
 
 #[tactic(auto, unfolding(crate::specs::Sine::sin_cos_of))]
