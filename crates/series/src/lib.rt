@@ -8,18 +8,22 @@ ghost use Rattle.std.specs.Float.{binary64};
 ghost use Rattle.series.specs.Horner.{horner_of};
 ghost use Rattle.series.specs.Coefficients.{terms, odd_reciprocal, factorial_reciprocal};
 
-// The values at N places of the polynomial with the coefficients cs, from the constant term up. They go in step: none waits for another.
+use std::simd::prelude::*;
+
+// The values at N places of the polynomial with the coefficients cs, from the constant term up. They go in step, as vectors: of an
+// array the compiler makes one place after another, and within a place each step waits for the one before.
 pub fn horner<const N: usize>(cs: &[f64], z: [f64; N]) -> [f64; N]
     ensures { result ≡ map (horner_of binary64 cs.now) z.entry }
 {
     let Some((&last, rest)) = cs.split_last() else {
         return [0.0; N];
     };
-    let mut h = [last; N];
+    let z = Simd::<f64, N>::from_array(z);
+    let mut h = Simd::<f64, N>::splat(last);
     for &c in rest.iter().rev() {
-        h = lanes::pairwise(h, z, |h, z| h * z + c);
+        h = h * z + Simd::<f64, N>::splat(c);
     }
-    h
+    h.to_array()
 }
 
 // 1 / (2k + 1) for k from 0 to 25.

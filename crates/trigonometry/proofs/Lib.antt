@@ -1,3 +1,4 @@
+pub mod Apart
 pub mod Specials
 pub mod Range
 pub mod Order

@@ -4,10 +4,10 @@ use mathlib.Core.Bool.{Bool, true, false, not, ◌&&◌, ◌||◌, true≢false,
 use Prim.Native.Nat.{ℕ, ◌+◌, ◌*◌, ◌<◌}
 use native.Mathlib.Omega.{arith}
 use borrow.Author.Tests.{ltb-true, ltb-false, eqb-true, eqb-false, lt-ltb, eq-eqb}
-use lib.Dec.{ltb, eqb}
+use lib.Dec.{T, ltb, eqb}
 use lib.IntN.{ℤ}
-use lib.Ieee.{Float, nan, inf, fin, binary32, of_bits, neg, lt, le, ne, up, down}
-use lib.Ieee.Fits.{down_pos}
+use lib.Ieee.{Float, nan, inf, fin, binary32, binary64, of_bits, neg, lt, le, ne, up, down, fits, is_nan}
+use lib.Ieee.Fits.{down_pos, and_i, fits_widens}
 use Rattle.ieee.specs.Basic.{abs_of}
 use Rattle.trigonometry.specs.Constants.{eight}
 
@@ -64,3 +64,12 @@ below_it (inf true) h = unfold ne in refl
 below_it (inf false) h = absurd (true≢false h)
 below_it (fin false m e) h = absurd (true≢false (rw (some' (m * up e * 1) (down e) (down_pos e)) at h))
 below_it (fin true m e) h = rw (no_nan true m e) (sym h ∙ at_most' (m * up e * 1) (8 * down e))
+
+-- a number that has a sine is one of the wider format
+pub widened : (t : Float) → T (fits binary32 t) → not (ne t t || lt eight (abs_of t)) ≡ true → T (fits binary64 t && not (is_nan t))
+widened t f h = and_i (fits binary64 t) (not (is_nan t)) (fits_widens t f) (number t h)
+  where
+    number : (t : Float) → not (ne t t || lt eight (abs_of t)) ≡ true → T (not (is_nan t))
+    number nan h = unfold ne in absurd (false≢true h)
+    number (inf s) h = unfold is_nan in tt
+    number (fin s m e) h = unfold is_nan in tt

@@ -1,12 +1,14 @@
 -- Document 01's sine, cosine and tangent. The steps are binary64, each rounded once, in the order written there; only the results are narrowed. Definitions only.
-use Rattle.std.specs.Prelude.{ℕ, ◌+◌, ◌*◌, cond, ◌||◌, Float}
+use Rattle.std.specs.Prelude.{ℕ, ◌+◌, ◌*◌, cond, ◌||◌, List, map, Float}
 use Rattle.std.specs.Float.{nan, binary64}
 use Rattle.std.specs.Float.Ieee.{sub, mul, div, lt, ne}
+use Rattle.std.specs.Simd.Lanes.{zip2}
 use Rattle.ieee.specs.Basic.{widen_of, abs_of}
 use Rattle.ieee.specs.Narrow.{narrow_of}
 use Rattle.series.specs.Coefficients.{H, alternating, factorial_reciprocal}
 use Rattle.trigonometry.specs.Constants.{two, eight, sixteen}
 use Rattle.trigonometry.specs.declared.Pair.{Pair}
+use Rattle.trigonometry.specs.declared.Pairs.{Pairs}
 use Rattle.trigonometry.specs.declared.SinCos.{SinCos}
 
 -- (-1)^k / (2k + 1)! and (-1)^k / (2k)!
@@ -43,3 +45,11 @@ sin_cos_of t = let p = pair_of (widen_of t) in record { sin = narrow_of p.s; cos
 -- s / c of the pair in binary64
 unfoldable pub tan_of : Float → Float
 tan_of t = let p = pair_of (widen_of t) in narrow_of (div binary64 p.s p.c)
+
+-- the sines of some pairs in one list and their cosines in another
+abbrev pub apart : {n : ℕ} → List Pair → Pairs n
+apart p = record { s = map (λ (q : Pair). q.s) p; c = map (λ (q : Pair). q.c) p }
+
+-- each sine with the cosine at the same place
+abbrev pub together : {n : ℕ} → Pairs n → List Pair
+together p = zip2 (λ (s c : Float). record { s = s; c = c }) p.s p.c

@@ -5,12 +5,12 @@
 
 ghost use Rattle.std.specs.Prelude.{◌≡◌, ◌<◌, ◌^◌, map, cond, not, ◌&&◌, ◌||◌};
 ghost use Rattle.std.specs.Float.Ieee.Scale.{finite};
-ghost use Rattle.std.specs.Float.{binary64};
+ghost use Rattle.std.specs.Float.{nan, binary64};
 ghost use Rattle.std.specs.Float.Ieee.{ne, eq, lt, le, sub, add, div};
 ghost use Rattle.ieee.specs.Basic.{abs_of, widen_of};
 ghost use Rattle.series.specs.Coefficients.{terms};
 ghost use Rattle.trigonometry.specs.Constants.{zero, half, one, eight};
-ghost use Rattle.trigonometry.specs.Sine.{sine_term, cosine_term, sixteenth_of, doubled_of, pair_of, sin_cos_of, tan_of};
+ghost use Rattle.trigonometry.specs.Sine.{sine_term, cosine_term, sixteenth_of, doubled_of, pair_of, sin_cos_of, tan_of, apart, together};
 ghost use Rattle.trigonometry.specs.Arctangent.{arctangent_term, series_of, arctangent_of, quarter_of, mirrored_of, signed_of, atan2_of};
 
 const PI: f64 = 3.141592653589793;
@@ -26,6 +26,13 @@ pub struct SinCos {
 pub struct Pair {
     pub s: f64,
     pub c: f64,
+}
+
+// N of them, the sines and the cosines each in an array of their own, so that a step is the same for all of an array.
+#[derive(Clone, Copy)]
+pub struct Pairs<const N: usize> {
+    pub s: [f64; N],
+    pub c: [f64; N],
 }
 
 #[tactic(auto, unfolding(series::specs::Coefficients::terms, series::specs::Coefficients::alternating, crate::specs::Sine::sine_term))]
@@ -45,48 +52,69 @@ pub fn cosine_coefficients() -> [f64; 8]
 }
 
 // The sines and cosines of N numbers / 16, in step. A division, and not a product with 1 / 16, as document 01 writes it.
-pub fn sixteenths<const N: usize>(t: [f64; N]) -> [Pair; N]
-    ensures { result ≡ map sixteenth_of t.entry }
+fn sixteenths<const N: usize>(t: [f64; N]) -> Pairs<N>
+    ensures { result ≡ apart (map sixteenth_of t.entry) }
 {
     let q = lanes::each(t, |t| t / 16.0);
     let z = lanes::each(q, |q| q * q);
     let sines = sine_coefficients();
     let cosines = cosine_coefficients();
     let s = lanes::pairwise(q, series::horner(&sines, z), |q, g| q * g);
-    lanes::pairwise(s, series::horner(&cosines, z), |s, c| Pair { s, c })
+    let c = series::horner(&cosines, z);
+    Pairs { s, c }
 }
 
-// The pair of twice the angle.
-#[tactic(auto, unfolding(crate::specs::Sine::doubled_of))]
-fn doubled(p: Pair) -> Pair
-    ensures { result ≡ doubled_of p }
+// The pairs of twice the angles.
+fn doubled<const N: usize>(p: Pairs<N>) -> Pairs<N>
+    ensures { result ≡ apart (map doubled_of (together p.entry)) }
 {
-    let s = (2.0 * p.s) * p.c;
-    let c = p.c * p.c - p.s * p.s;
-    Pair { s: s, c: c }
+    let s = lanes::pairwise(p.s, p.c, |s, c| (2.0 * s) * c);
+    let c = lanes::pairwise(p.s, p.c, |s, c| c * c - s * s);
+    Pairs { s, c }
 }
 
-// The pair of sixteen times the angle.
-pub fn sixteenfold(p: Pair) -> Pair
-    ensures { result ≡ doubled_of (doubled_of (doubled_of (doubled_of p))) }
+// The pairs of sixteen times the angles.
+fn sixteenfold<const N: usize>(p: Pairs<N>) -> Pairs<N>
+    ensures { result ≡ apart (map (λ q. doubled_of (doubled_of (doubled_of (doubled_of q)))) (together p.entry)) }
 {
     doubled(doubled(doubled(doubled(p))))
 }
 
 // No NaN, and of magnitude 8 at most. A comparison with a NaN is false.
-pub fn in_range(t: f32) -> bool
+fn in_range(t: f32) -> bool
     ensures { result ≡ not (ne t t || lt eight (abs_of t)) }
 {
     -8.0 <= t && t <= 8.0
 }
 
-#[tactic(auto, using(crate::proofs::Specials::nan64_is), unfolding(crate::specs::Sine::pair_of, ieee::specs::Basic::widen_of))]
-pub fn pair_at(t: f32) -> Pair
+// An angle, widened; one that has no sine becomes a NaN, whose sine and cosine are NaNs.
+#[tactic(auto, using(crate::proofs::Specials::nan64_is, crate::proofs::Range::widened), unfolding(ieee::specs::Basic::widen_of))]
+fn bounded(t: f32) -> f64
+    ensures { result ≡ cond (ne t t || lt eight (abs_of t)) nan (widen_of t) }
+{
+    if in_range(t) {
+        return t as f64;
+    }
+    0.0 / 0.0
+}
+
+// The sines and cosines of N angles, in step.
+pub fn pairs_at<const N: usize>(t: [f32; N]) -> Pairs<N>
+    ensures { result ≡ apart (map (λ x. pair_of (widen_of x)) t.entry) }
+{
+    sixteenfold(sixteenths(lanes::each(t, bounded)))
+}
+
+// By a branch, since one angle alone would wait for the choice that `bounded` makes.
+#[tactic(auto, using(crate::proofs::Specials::nan64_is, crate::proofs::Range::widened), unfolding(crate::specs::Sine::pair_of, ieee::specs::Basic::widen_of))]
+fn pair_at(t: f32) -> Pair
     ensures { result ≡ pair_of (widen_of t) }
 {
     if in_range(t) {
-        let [p] = sixteenths([ieee::widen(t)]);
-        return sixteenfold(p);
+        let p = sixteenfold(sixteenths([t as f64]));
+        let [s] = p.s;
+        let [c] = p.c;
+        return Pair { s, c };
     }
     Pair {
         s: 0.0 / 0.0,

@@ -1,8 +1,10 @@
 use Rattle.std.specs.List.{push}
-use Rattle.std.proofs.Common.{rules, length, ◌≡◌, ◌++◌, List, [], ◌∷◌, sym, ◌∙◌, append_assoc}
+use Rattle.std.proofs.Common.{rules, length, ◌≡◌, ◌++◌, List, [], ◌∷◌, sym, ◌∙◌, append_assoc, refl}
 use native.Mathlib.Omega.{arith}
 use lib.Ieee.{Float, binary64, add, mul}
-use Rattle.lanes.proofs.Places.{replicate-map, zip2-over_map}
+use Rattle.std.proofs.lemmas.Simd.{zip2_of_maps, splat_is_map}
+use Rattle.lanes.proofs.Places.{replicate-map, zip2-over_map, map-equal}
+use Rattle.series.specs.Horner.{horner_of}
 use Rattle.series.proofs.Horners.{horner_one, horner_more, horner_none}
 use Rattle.series.proofs.horner.Goals as goal
 
@@ -23,7 +25,10 @@ pub loop-c-preserved : goal.loop-c-preserved
 loop-c-preserved g c =
     let i = c.loop-c.invariant in
     let x = c.in-Some-2.field-0.now in
-    (x ∷ i.0, one_less _ i.0 _ x (rw c.in-Some-2.ensures.steps at i.1), omega arith, c.pairwise-h.ensures (λ h z. add binary64 (mul binary64 h z) x) (λ a b r p. search rules) ∙ rw i.3 (zip2-over_map _ _ _ (λ z. horner_more binary64 x z i.0 i.2) c.args.z))
+    let product = λ (z : Float). mul binary64 (horner_of binary64 i.0 z) z in
+    let products = zip2-over_map (mul binary64) (horner_of binary64 i.0) product (λ z. refl) c.args.z in
+    let same = splat_is_map c.args.z g.row.N x (omega arith) in
+    (x ∷ i.0, one_less _ i.0 _ x (rw c.in-Some-2.ensures.steps at i.1), omega arith, zip2_of_maps (add binary64) product (λ _. x) c.args.z (rw i.3 products) same ∙ map-equal _ _ (λ z. horner_more binary64 x z i.0 i.2) c.args.z)
 
 pub returns : goal.returns
 returns g c =
