@@ -1,3 +1,3 @@
 pub mod Specials
 pub mod Range
-pub mod Order
+pub mod Choices
