@@ -168,13 +168,17 @@ pub fn circle_center_through(a: Point, b: Point, r: f32) -> Point
     }
 }
 
-// The signed angles from N vectors to N others. The bound on N is that of `trigonometry::angles`.
+// The signed angles from N vectors to N others. The bound on N is that of `trigonometry::angles_of_both`.
 fn angles_between<const N: usize>(from: [Point; N], to: [Point; N]) -> [f32; N]
     requires { N < 2 ^ 59 }
     ensures { result ≡ zip2 angle_between_of from.entry to.entry }
 {
-    let f = trigonometry::angles(lanes::each(from, |p| p.y), lanes::each(from, |p| p.x));
-    let t = trigonometry::angles(lanes::each(to, |p| p.y), lanes::each(to, |p| p.x));
+    let (f, t) = trigonometry::angles_of_both(
+        lanes::each(from, |p| p.y),
+        lanes::each(from, |p| p.x),
+        lanes::each(to, |p| p.y),
+        lanes::each(to, |p| p.x),
+    );
     lanes::pairwise(f, t, |f, t| t - f)
 }
 

@@ -1,8 +1,12 @@
 -- The last rule of atan2 in stages: each chooses by the definition's tests, and chooses the same. Assumes nothing.
-use mathlib.Core.Path.{◌≡◌, refl, ap}
+use mathlib.Core.Path.{◌≡◌, refl, sym, ap, ◌∙◌}
+use mathlib.Core.List.{List, map}
+use Rattle.std.specs.List.{list_all}
+use Rattle.std.specs.Simd.Lanes.{zip2}
 use mathlib.Core.Bool.{Bool, true, false, cond, not, ◌&&◌, false≢true}
 use lib.Ieee.{Float, binary64, add, sub, mul, div, eq, le}
 use lib.Ieee.Scale.{finite}
+use Rattle.lanes.proofs.Places.{map-of_zip2, zip2-agree}
 use Rattle.ieee.specs.Basic.{widen_of, abs_of}
 use Rattle.ieee.specs.Narrow.{narrow_of}
 use Rattle.series.specs.Horner.{horner_of}
@@ -43,6 +47,12 @@ last_rule true false c u v w h = absurd (false≢true h)
 last_rule true true true u v w h = absurd (false≢true h)
 last_rule true true false u v w h = refl
 
-pub plain-is : (y x : Float) → plain y x ≡ true → atan2_of y x ≡ narrow_of (angle_of (place_of y x))
+plain-is : (y x : Float) → plain y x ≡ true → atan2_of y x ≡ narrow_of (angle_of (place_of y x))
 unfolding plain atan2_of angle_of widen_of
 plain-is y x h = last_rule (finite y) (finite x) (eq y zero && eq x zero) _ _ _ h
+
+-- the angles of points that are all plain, as they are worked out in step
+pub in_step : (y x : List Float) (p : List Place) (v r : List Float) (all : Bool) → all ≡ list_all (λ (b : Bool). b) (zip2 plain y x) → all ≡ true
+    → p ≡ zip2 place_of y x → v ≡ map angle_of p → r ≡ map narrow_of v → r ≡ zip2 atan2_of y x
+in_step y x p v r all e h ep ev er =
+    rw (er, ev, ep, map-of_zip2, map-of_zip2) (sym (zip2-agree plain atan2_of (λ (b a : Float). narrow_of (angle_of (place_of b a))) plain-is y x (sym e ∙ h)))

@@ -3,7 +3,8 @@
 
 #![tactic(auto)]
 
-ghost use Rattle.std.specs.Prelude.{◌≡◌, ◌<◌, ◌^◌, map, cond, not, ◌&&◌, ◌||◌};
+ghost use Rattle.std.specs.Prelude.{◌≡◌, ◌<◌, ◌^◌, map, cond, not, ◌&&◌, ◌||◌, Bool};
+ghost use Rattle.std.specs.List.{list_all};
 ghost use Rattle.std.specs.Float.Ieee.Scale.{finite};
 ghost use Rattle.std.specs.Float.{binary64};
 ghost use Rattle.std.specs.Float.Ieee.{ne, lt, le, sub, add, div};
@@ -266,14 +267,39 @@ fn is_plain(y: f32, x: f32) -> bool
     both_finite(y, x) & !((y == 0.0) & (x == 0.0))
 }
 
+fn all_plain<const N: usize>(y: [f32; N], x: [f32; N]) -> bool
+    ensures { result ≡ list_all (λ (b : Bool). b) (zip2 plain y.entry x.entry) }
+{
+    lanes::all(lanes::pairwise(y, x, is_plain), |p| p)
+}
+
 // The angles of N points. They go in step where none is a special case, so that none waits for another. N places of two f64 fit in
 // memory, which the types do not say.
 pub fn angles<const N: usize>(y: [f32; N], x: [f32; N]) -> [f32; N]
     requires { N < 2 ^ 59 }
     ensures { result ≡ zip2 atan2_of y.entry x.entry }
 {
-    if lanes::all(lanes::pairwise(y, x, is_plain), |p| p) {
+    if all_plain(y, x) {
         return lanes::narrow(main_angles(lanes::pairwise(y, x, widened)));
     }
     lanes::pairwise(y, x, atan2)
+}
+
+// The angles of N points (x, y) and of N others (u, v). All are worked out before any is narrowed, so that a processor begins with
+// the others while it waits for the first. The bound on N is that of `angles`.
+pub fn angles_of_both<const N: usize>(
+    y: [f32; N],
+    x: [f32; N],
+    v: [f32; N],
+    u: [f32; N],
+) -> ([f32; N], [f32; N])
+    requires { N < 2 ^ 59 }
+    ensures { result ≡ (zip2 atan2_of y.entry x.entry, zip2 atan2_of v.entry u.entry) }
+{
+    if all_plain(y, x) & all_plain(v, u) {
+        let a = main_angles(lanes::pairwise(y, x, widened));
+        let b = main_angles(lanes::pairwise(v, u, widened));
+        return (lanes::narrow(a), lanes::narrow(b));
+    }
+    (angles(y, x), angles(v, u))
 }
