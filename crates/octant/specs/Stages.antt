@@ -4,7 +4,7 @@ use Rattle.std.specs.Prelude.{Float}
 use Rattle.geometry.specs.declared.Point.{Point}
 use Rattle.geometry.specs.Point.{one, sub_of}
 use Rattle.exponential.specs.Power.{pow_of}
-use Rattle.octant.specs.Binary32.{◌⊖◌, ◌⊗◌, ◌⊘◌, two}
+use Rattle.octant.specs.Binary32.{◌⊖◌, ◌⊗◌, ◌⊘◌, zero, two}
 use Rattle.octant.specs.Degree.{n_and_xj_of}
 use Rattle.octant.specs.Octant.{point, gap_factor, sqrt2, circle_center_through_of, angle_between_of}
 use Rattle.octant.specs.declared.Fitted.{Fitted}
@@ -50,6 +50,19 @@ solve_of u =
     let s = fitted_of u.a u.radius in
     let y = height_of s (first_power_of s) u.a in
     record { fit = s; at = record { y = y; slope = slope_of s y } }
+
+-- point_m, where the circular arc ends
+abbrev pub arc_end_of : Float → Float → Point
+arc_end_of a g = point (a ⊖ g) (a ⊖ g)
+
+-- the octant but for the angle of its circular arc
+unfoldable pub unturned_of : Unsolved → Solve → Octant
+unturned_of u s =
+    let d = (s.fit.xj ⊖ s.at.slope ⊗ s.at.y) ⊘ (one ⊖ s.at.slope) in
+    let r = (u.a ⊖ d ⊖ s.fit.g) ⊗ sqrt2 in
+    let point_j = point s.fit.xj s.at.y in
+    let circle_center = circle_center_through_of point_j (arc_end_of u.a s.fit.g) r in
+    record { offset = u.center; se_a = u.a; se_n = s.fit.n; circle_start = point_j; circle_center = circle_center; circle_max_angle = zero }
 
 -- the octant, where it is round
 unfoldable pub round_of : Unsolved → Octant

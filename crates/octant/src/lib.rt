@@ -4,9 +4,10 @@
 #![tactic(auto)]
 
 ghost use Rattle.std.specs.Prelude.{◌≡◌, ◌+◌, ◌<◌, ◌^◌, map};
+ghost use Rattle.std.specs.Simd.Lanes.{zip2};
 ghost use Rattle.octant.specs.Degree.{corner_at, entry, left_row_of, table_steps_of, n_and_xj_of};
 ghost use Rattle.octant.specs.Octant.{circle_center_through_of, angle_between_of, compute_octant_of, moved_of};
-ghost use Rattle.octant.specs.Stages.{fitted_of, solve_of, round_of, finished_of};
+ghost use Rattle.octant.specs.Stages.{fitted_of, solve_of, arc_end_of, unturned_of, round_of};
 ghost use Rattle.octant.specs.declared.Unsolved.{Unsolved};
 
 use geometry::Point;
@@ -167,12 +168,18 @@ pub fn circle_center_through(a: Point, b: Point, r: f32) -> Point
     }
 }
 
-// The signed angle from one vector to another.
-#[tactic(auto, unfolding(crate::specs::Octant::angle_between_of))]
-pub fn angle_between(from: Point, to: Point) -> f32
-    ensures { result ≡ angle_between_of from to }
+// The signed angles from N vectors to N others. The bound on N is that of `trigonometry::angles_of_both`.
+fn angles_between<const N: usize>(from: [Point; N], to: [Point; N]) -> [f32; N]
+    requires { N < 2 ^ 59 }
+    ensures { result ≡ zip2 angle_between_of from.entry to.entry }
 {
-    trigonometry::atan2(to.y, to.x) - trigonometry::atan2(from.y, from.x)
+    let (f, t) = trigonometry::angles_of_both(
+        lanes::each(from, |p| p.y),
+        lanes::each(from, |p| p.x),
+        lanes::each(to, |p| p.y),
+        lanes::each(to, |p| p.x),
+    );
+    lanes::pairwise(f, t, |f, t| t - f)
 }
 
 // What an octant is solved from: the gap at the corner, the degree, and the x where the arcs meet, also as a part of the half-extent.
@@ -196,29 +203,6 @@ pub fn fit(a: f32, radius: f32) -> Fitted
         n: fit.n,
         xj: fit.xj_over_a * a,
         xj_over_a: fit.xj_over_a,
-    }
-}
-
-#[tactic(auto, unfolding(crate::specs::Stages::finished_of))]
-pub fn finished(center: Point, a: f32, s: Fitted, yj: f32, tan_phij: f32) -> Octant
-    ensures { result ≡ finished_of center a s yj tan_phij }
-{
-    let xj = s.xj;
-    let g = s.g;
-    let d = (xj - tan_phij * yj) / (1.0 - tan_phij);
-    let r = (a - d - g) * SQRT_2;
-    let point_m = Point { x: a - g, y: a - g };
-    let point_j = Point { x: xj, y: yj };
-    let circle_center = circle_center_through(point_j, point_m, r);
-    let from = point_m - circle_center;
-    let to = point_j - circle_center;
-    Octant {
-        offset: center,
-        se_a: a,
-        se_n: s.n,
-        circle_start: point_j,
-        circle_center,
-        circle_max_angle: angle_between(from, to),
     }
 }
 
@@ -261,13 +245,53 @@ fn solves<const N: usize>(u: [Unsolved; N]) -> [Solve; N]
     lanes::pairwise(s, at, |fit, at| Solve { fit, at })
 }
 
+// Where the circular arc ends, on the diagonal.
+fn arc_end(a: f32, g: f32) -> Point
+    ensures { result ≡ arc_end_of a g }
+{
+    Point { x: a - g, y: a - g }
+}
+
+// The octant but for the angle of its circular arc, which is 0 here.
+#[tactic(auto, unfolding(crate::specs::Stages::unturned_of))]
+fn unturned(u: Unsolved, s: Solve) -> Octant
+    ensures { result ≡ unturned_of u s }
+{
+    let a = u.a;
+    let xj = s.fit.xj;
+    let g = s.fit.g;
+    let yj = s.at.y;
+    let tan_phij = s.at.slope;
+    let d = (xj - tan_phij * yj) / (1.0 - tan_phij);
+    let r = (a - d - g) * SQRT_2;
+    let point_j = Point { x: xj, y: yj };
+    Octant {
+        offset: u.center,
+        se_a: a,
+        se_n: s.fit.n,
+        circle_start: point_j,
+        circle_center: circle_center_through(point_j, arc_end(a, g), r),
+        circle_max_angle: 0.0,
+    }
+}
+
 // N octants that are round: none has a radius up to CLOSE_ENOUGH.
 pub fn round_octants<const N: usize>(u: [Unsolved; N]) -> [Octant; N]
     ensures { result ≡ map round_of u.entry }
 {
-    lanes::pairwise(u, solves(u), |u, s| {
-        finished(u.center, u.a, s.fit, s.at.y, s.at.slope)
-    })
+    let s = solves(u);
+    let o = lanes::pairwise(u, s, unturned);
+    let from = lanes::pairwise(o, s, |o, s| arc_end(o.se_a, s.fit.g) - o.circle_center);
+    let to = lanes::each(o, |o| o.circle_start - o.circle_center);
+    let angles = angles_between(from, to);
+    lanes::pairwise(
+        o,
+        angles,
+        |o, circle_max_angle| Octant {
+            circle_max_angle,
+            ..o
+        },
+    )
 }
 
 #[tactic(auto, unfolding(crate::specs::Octant::compute_octant_of))]

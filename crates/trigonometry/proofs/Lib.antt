@@ -1,4 +1,4 @@
 pub mod Apart
 pub mod Specials
 pub mod Range
-pub mod Order
+pub mod Choices

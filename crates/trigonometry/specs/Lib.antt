@@ -1,3 +1,4 @@
 pub mod Constants
 pub mod Sine
 pub mod Arctangent
+pub mod Stages

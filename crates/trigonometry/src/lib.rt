@@ -3,15 +3,18 @@
 
 #![tactic(auto)]
 
-ghost use Rattle.std.specs.Prelude.{◌≡◌, ◌<◌, ◌^◌, map, cond, not, ◌&&◌, ◌||◌};
+ghost use Rattle.std.specs.Prelude.{◌≡◌, ◌<◌, ◌^◌, map, cond, not, ◌&&◌, ◌||◌, Bool};
+ghost use Rattle.std.specs.List.{list_all};
 ghost use Rattle.std.specs.Float.Ieee.Scale.{finite};
 ghost use Rattle.std.specs.Float.{nan, binary64};
 ghost use Rattle.std.specs.Float.Ieee.{ne, eq, lt, le, sub, add, div};
 ghost use Rattle.ieee.specs.Basic.{abs_of, widen_of};
 ghost use Rattle.series.specs.Coefficients.{terms};
-ghost use Rattle.trigonometry.specs.Constants.{zero, half, one, eight};
+ghost use Rattle.trigonometry.specs.Constants.{zero, half, one, eight, two, four, pi};
 ghost use Rattle.trigonometry.specs.Sine.{sine_term, cosine_term, sixteenth_of, doubled_of, pair_of, sin_cos_of, tan_of, apart, together};
 ghost use Rattle.trigonometry.specs.Arctangent.{arctangent_term, series_of, arctangent_of, quarter_of, mirrored_of, signed_of, atan2_of};
+ghost use Rattle.std.specs.Simd.Lanes.{zip2};
+ghost use Rattle.trigonometry.specs.Stages.{plain, place_of, ratio_of, turned_of, angle_of};
 
 const PI: f64 = 3.141592653589793;
 
@@ -153,16 +156,6 @@ fn arctangent_coefficients() -> [f64; 26]
     ]
 }
 
-// T of document 01.
-#[tactic(auto, unfolding(crate::specs::Arctangent::series_of, series::specs::Coefficients::H))]
-fn arctangent_series(r: f64) -> f64
-    ensures { result ≡ series_of r }
-{
-    let cs = arctangent_coefficients();
-    let [h] = series::horner(&cs, [r * r]);
-    r * h
-}
-
 // The number at which A of document 01 takes the series.
 fn reduced(r: f64) -> f64
     ensures { result ≡ cond (le r half) r (div binary64 (sub binary64 r one) (add binary64 r one)) }
@@ -173,38 +166,67 @@ fn reduced(r: f64) -> f64
     (r - 1.0) / (r + 1.0)
 }
 
-// A of document 01. The series stands once, so that no branch but a choice between numbers is left.
-#[tactic(auto, unfolding(crate::specs::Arctangent::arctangent_of))]
-fn arctangent(r: f64) -> f64
-    ensures { result ≡ arctangent_of r }
+// A of document 01, from the value v of its series.
+fn raised(r: f64, v: f64) -> f64
+    ensures { result ≡ cond (le r half) v (add binary64 (div binary64 pi four) v) }
 {
-    let v = arctangent_series(reduced(r));
     if r <= 0.5 {
         return v;
     }
     PI / 4.0 + v
 }
 
-// The lesser of the two and the greater; of two that are level, the second first.
-fn in_order(a: f64, b: f64) -> (f64, f64)
-    ensures { result ≡ cond (lt a b) (a, b) (b, a) }
+// A of document 01 at N places, in step. The series stands once for both its cases, so that no branch but a choice between numbers
+// is left.
+fn arctangents<const N: usize>(r: [f64; N]) -> [f64; N]
+    ensures { result ≡ map arctangent_of r.entry }
 {
-    if a < b {
+    let s = lanes::each(r, reduced);
+    let cs = arctangent_coefficients();
+    let h = series::horner(&cs, lanes::each(s, |s| s * s));
+    let v = lanes::pairwise(s, h, |s, h| s * h);
+    lanes::pairwise(r, v, raised)
+}
+
+// A point, its coordinates widened.
+#[derive(Clone, Copy)]
+struct Place {
+    y: f64,
+    x: f64,
+}
+
+fn widened(y: f32, x: f32) -> Place
+    ensures { result ≡ place_of y x }
+{
+    Place {
+        y: ieee::widen(y),
+        x: ieee::widen(x),
+    }
+}
+
+// The lesser of the two and the greater; of two that are level, the first first.
+fn in_order(a: f64, b: f64) -> (f64, f64)
+    ensures { result ≡ cond (le a b) (a, b) (b, a) }
+{
+    if a <= b {
         return (a, b);
     }
     (b, a)
 }
 
-// The angle of the point (|x|, |y|): at most a quarter turn. The lesser over the greater needs no
-// branch; where the two are level, it is either quotient.
-fn quarter(y: f32, x: f32) -> f64
-    ensures { result ≡ quarter_of (abs_of (widen_of y)) (abs_of (widen_of x)) }
+#[tactic(auto, unfolding(crate::specs::Stages::ratio_of))]
+fn ratio(p: Place) -> f64
+    ensures { result ≡ ratio_of p }
 {
-    let a = ieee::widen(ieee::abs(y));
-    let b = ieee::widen(ieee::abs(x));
-    let (lesser, greater) = in_order(a, b);
-    let v = arctangent(lesser / greater);
-    if a <= b {
+    let (lesser, greater) = in_order(ieee::abs_f64(p.y), ieee::abs_f64(p.x));
+    lesser / greater
+}
+
+// The angle of the point (|x|, |y|), at most a quarter turn, from A of its ratio.
+fn quarter(p: Place, v: f64) -> f64
+    ensures { result ≡ cond (le (abs_of p.y) (abs_of p.x)) v (sub binary64 (div binary64 pi two) v) }
+{
+    if ieee::abs_f64(p.y) <= ieee::abs_f64(p.x) {
         return v;
     }
     PI / 2.0 - v
@@ -230,13 +252,28 @@ fn signed(y: f64, v: f64) -> f64
     v
 }
 
+#[tactic(auto, unfolding(crate::specs::Stages::turned_of))]
+fn turned(p: Place, v: f64) -> f64
+    ensures { result ≡ turned_of p v }
+{
+    signed(p.y, mirrored(p.x, quarter(p, v)))
+}
+
+// The angles of N points by the last rule of atan2, in step.
+fn main_angles<const N: usize>(p: [Place; N]) -> [f64; N]
+    ensures { result ≡ map angle_of p.entry }
+{
+    let v = arctangents(lanes::each(p, ratio));
+    lanes::pairwise(p, v, turned)
+}
+
 fn both_finite(y: f32, x: f32) -> bool
     ensures { result ≡ (finite y && finite x) }
 {
     ieee::is_finite(y) && ieee::is_finite(x)
 }
 
-#[tactic(auto, using(crate::proofs::Specials::nan32_is, crate::proofs::Specials::zero_is), unfolding(crate::specs::Arctangent::atan2_of, ieee::specs::Basic::widen_of))]
+#[tactic(auto, using(crate::proofs::Specials::nan32_is, crate::proofs::Specials::zero_is), unfolding(crate::specs::Arctangent::atan2_of, crate::specs::Stages::angle_of, ieee::specs::Basic::widen_of))]
 pub fn atan2(y: f32, x: f32) -> f32
     ensures { result ≡ atan2_of y x }
 {
@@ -244,8 +281,53 @@ pub fn atan2(y: f32, x: f32) -> f32
         if y == 0.0 && x == 0.0 {
             return 0.0;
         }
-        let v = mirrored(ieee::widen(x), quarter(y, x));
-        return ieee::narrow(signed(ieee::widen(y), v));
+        let [v] = main_angles([widened(y, x)]);
+        return ieee::narrow(v);
     }
     0.0 / 0.0
+}
+
+// Whether none of atan2's rules but the last applies.
+#[tactic(auto, using(crate::proofs::Specials::zero_is), unfolding(crate::specs::Stages::plain))]
+fn is_plain(y: f32, x: f32) -> bool
+    ensures { result ≡ plain y x }
+{
+    both_finite(y, x) & !((y == 0.0) & (x == 0.0))
+}
+
+fn all_plain<const N: usize>(y: [f32; N], x: [f32; N]) -> bool
+    ensures { result ≡ list_all (λ (b : Bool). b) (zip2 plain y.entry x.entry) }
+{
+    lanes::all(lanes::pairwise(y, x, is_plain), |p| p)
+}
+
+// The angles of N points. They go in step where none is a special case, so that none waits for another. N places of two f64 fit in
+// memory, which the types do not say.
+pub fn angles<const N: usize>(y: [f32; N], x: [f32; N]) -> [f32; N]
+    requires { N < 2 ^ 59 }
+    ensures { result ≡ zip2 atan2_of y.entry x.entry }
+{
+    if all_plain(y, x) {
+        return lanes::narrow(main_angles(lanes::pairwise(y, x, widened)));
+    }
+    lanes::pairwise(y, x, atan2)
+}
+
+// The angles of N points (x, y) and of N others (u, v). All are worked out before any is narrowed, so that a processor begins with
+// the others while it waits for the first. The bound on N is that of `angles`.
+pub fn angles_of_both<const N: usize>(
+    y: [f32; N],
+    x: [f32; N],
+    v: [f32; N],
+    u: [f32; N],
+) -> ([f32; N], [f32; N])
+    requires { N < 2 ^ 59 }
+    ensures { result ≡ (zip2 atan2_of y.entry x.entry, zip2 atan2_of v.entry u.entry) }
+{
+    if all_plain(y, x) & all_plain(v, u) {
+        let a = main_angles(lanes::pairwise(y, x, widened));
+        let b = main_angles(lanes::pairwise(v, u, widened));
+        return (lanes::narrow(a), lanes::narrow(b));
+    }
+    (angles(y, x), angles(v, u))
 }
