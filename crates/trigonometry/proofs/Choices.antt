@@ -6,7 +6,7 @@ use Rattle.std.specs.Simd.Lanes.{zip2}
 use mathlib.Core.Bool.{Bool, true, false, cond, not, ◌&&◌, false≢true}
 use lib.Ieee.{Float, binary64, add, sub, mul, div, eq, le}
 use lib.Ieee.Scale.{finite}
-use Rattle.lanes.proofs.Places.{map-of_zip2, zip2-agree}
+use Rattle.lanes.proofs.Places.{map-of_map, map-of_zip2, zip2-of_map_right, zip2-agree}
 use Rattle.ieee.specs.Basic.{widen_of, abs_of}
 use Rattle.ieee.specs.Narrow.{narrow_of}
 use Rattle.series.specs.Horner.{horner_of}
@@ -34,7 +34,7 @@ pub arctangent_by : (r : Float) → raised_of r (series (reduced_of r)) ≡ arct
 unfolding arctangent_of series_of H
 arctangent_by r = same_test (le r half) series (add binary64 (div binary64 pi four)) r (div binary64 (sub binary64 r one) (add binary64 r one))
 
-pub angle_by : (p : Place) → turned_of p (arctangent_of (ratio_of p)) ≡ angle_of p
+angle_by : (p : Place) → turned_of p (arctangent_of (ratio_of p)) ≡ angle_of p
 unfolding turned_of ratio_of angle_of quarter_of
 angle_by p =
     let a = abs_of p.y in
@@ -50,6 +50,10 @@ last_rule true true false u v w h = refl
 plain-is : (y x : Float) → plain y x ≡ true → atan2_of y x ≡ narrow_of (angle_of (place_of y x))
 unfolding plain atan2_of angle_of widen_of
 plain-is y x h = last_rule (finite y) (finite x) (eq y zero && eq x zero) _ _ _ h
+
+-- the angles of points, stage by stage
+pub by_stages : (p : List Place) (r f v : List Float) → r ≡ map ratio_of p → f ≡ map arctangent_of r → v ≡ zip2 turned_of p f → v ≡ map angle_of p
+by_stages p r f v er ef ev = zip2-of_map_right turned_of (λ (q : Place). arctangent_of (ratio_of q)) angle_of angle_by p f v (map-of_map arctangent_of ratio_of p r f er ef) ev
 
 -- the angles of points that are all plain, as they are worked out in step
 pub in_step : (y x : List Float) (p : List Place) (v r : List Float) (all : Bool) → all ≡ list_all (λ (b : Bool). b) (zip2 plain y x) → all ≡ true

@@ -313,8 +313,8 @@ pub fn angles<const N: usize>(y: [f32; N], x: [f32; N]) -> [f32; N]
     lanes::pairwise(y, x, atan2)
 }
 
-// The angles of N points (x, y) and of N others (u, v). All are worked out before any is narrowed, so that a processor begins with
-// the others while it waits for the first. The bound on N is that of `angles`.
+// The angles of N points (x, y) and of N others (u, v). The two series stand one behind the other, so that a processor begins the
+// second while the first, the longest wait, goes on. The bound on N is that of `angles`.
 pub fn angles_of_both<const N: usize>(
     y: [f32; N],
     x: [f32; N],
@@ -325,8 +325,14 @@ pub fn angles_of_both<const N: usize>(
     ensures { result ≡ (zip2 atan2_of y.entry x.entry, zip2 atan2_of v.entry u.entry) }
 {
     if all_plain(y, x) & all_plain(v, u) {
-        let a = main_angles(lanes::pairwise(y, x, widened));
-        let b = main_angles(lanes::pairwise(v, u, widened));
+        let p = lanes::pairwise(y, x, widened);
+        let q = lanes::pairwise(v, u, widened);
+        let r = lanes::each(p, ratio);
+        let s = lanes::each(q, ratio);
+        let f = arctangents(r);
+        let g = arctangents(s);
+        let a = lanes::pairwise(p, f, turned);
+        let b = lanes::pairwise(q, g, turned);
         return (lanes::narrow(a), lanes::narrow(b));
     }
     (angles(y, x), angles(v, u))
