@@ -2,7 +2,7 @@
 use mathlib.Core.Path.{◌≡◌, refl, sym, ap, ap₂, ◌∙◌}
 use mathlib.Core.Bool.{Bool, true, false, cond}
 use mathlib.Core.List.{List, [], ◌∷◌, map}
-use Prim.Native.Nat.{ℕ, ◌-◌, ◌/◌, ◌%◌, ◌^◌}
+use Prim.Native.Nat.{ℕ, ◌+◌, ◌-◌, ◌*◌, ◌/◌, ◌%◌, ◌^◌, ◌≤◌}
 use native.Mathlib.Omega.{arith}
 use lib.ListN.{length, get_or}
 use lib.Bits.{bit_and}
@@ -32,51 +32,36 @@ both_set true false = refl
 both_set false true = refl
 both_set false false = refl
 
-first_of : (p q r s : Bool) → eqb (mask_l (p ∷ q ∷ r ∷ s ∷ []) % 2 ^ 64 % 2) 1 ≡ p
-first_of true true true true = refl
-first_of true true true false = refl
-first_of true true false true = refl
-first_of true true false false = refl
-first_of true false true true = refl
-first_of true false true false = refl
-first_of true false false true = refl
-first_of true false false false = refl
-first_of false true true true = refl
-first_of false true true false = refl
-first_of false true false true = refl
-first_of false true false false = refl
-first_of false false true true = refl
-first_of false false true false = refl
-first_of false false false true = refl
-first_of false false false false = refl
+first_of : (p : Bool) (n : ℕ) → n ≤ 7 → eqb ((cond p 1 0 + 2 * n) % 2 ^ 64 % 2) 1 ≡ p
+first_of true n h = let e : (1 + 2 * n) % 2 ^ 64 % 2 ≡ 1 = omega (arith, h) in rw e
+first_of false n h = let e : (0 + 2 * n) % 2 ^ 64 % 2 ≡ 0 = omega (arith, h) in rw e
 
-second_of : (p q r s : Bool) → eqb (mask_l (p ∷ q ∷ r ∷ s ∷ []) % 2 ^ 64 / 2 % 2) 1 ≡ q
-second_of true true true true = refl
-second_of true true true false = refl
-second_of true true false true = refl
-second_of true true false false = refl
-second_of true false true true = refl
-second_of true false true false = refl
-second_of true false false true = refl
-second_of true false false false = refl
-second_of false true true true = refl
-second_of false true true false = refl
-second_of false true false true = refl
-second_of false true false false = refl
-second_of false false true true = refl
-second_of false false true false = refl
-second_of false false false true = refl
-second_of false false false false = refl
+second_of : (p q : Bool) (n : ℕ) → n ≤ 3 → eqb ((cond p 1 0 + 2 * (cond q 1 0 + 2 * n)) % 2 ^ 64 / 2 % 2) 1 ≡ q
+second_of true true n h = let e : (1 + 2 * (1 + 2 * n)) % 2 ^ 64 / 2 % 2 ≡ 1 = omega (arith, h) in rw e
+second_of true false n h = let e : (1 + 2 * (0 + 2 * n)) % 2 ^ 64 / 2 % 2 ≡ 0 = omega (arith, h) in rw e
+second_of false true n h = let e : (0 + 2 * (1 + 2 * n)) % 2 ^ 64 / 2 % 2 ≡ 1 = omega (arith, h) in rw e
+second_of false false n h = let e : (0 + 2 * (0 + 2 * n)) % 2 ^ 64 / 2 % 2 ≡ 0 = omega (arith, h) in rw e
+
+digit : (p : Bool) → cond p 1 0 ≤ 1
+digit true = omega arith
+digit false = omega arith
 
 module _ (a b c d e f g h : Bool) where
   abbrev pub bits : ℕ
   bits = mask_l (map (top 31) (lane a b ∷ lane c d ∷ lane e f ∷ lane g h ∷ [])) % 2 ^ 64
 
   pub first_lane : eqb (bits % 2) 1 ≡ cond b a false
-  first_lane = first_of (top 31 (lane a b)) (top 31 (lane c d)) (top 31 (lane e f)) (top 31 (lane g h)) ∙ both_set a b
+  first_lane =
+      let q = top 31 (lane c d) in
+      let r = top 31 (lane e f) in
+      let s = top 31 (lane g h) in
+      first_of (top 31 (lane a b)) (mask_l (q ∷ r ∷ s ∷ [])) (omega (arith, digit q, digit r, digit s)) ∙ both_set a b
 
   pub second_lane : eqb (bits / 2 % 2) 1 ≡ cond d c false
-  second_lane = second_of (top 31 (lane a b)) (top 31 (lane c d)) (top 31 (lane e f)) (top 31 (lane g h)) ∙ both_set c d
+  second_lane =
+      let r = top 31 (lane e f) in
+      let s = top 31 (lane g h) in
+      second_of (top 31 (lane a b)) (top 31 (lane c d)) (mask_l (r ∷ s ∷ [])) (omega (arith, digit r, digit s)) ∙ both_set c d
 
 -- where the left half's end is the right half's start
 pub meeting_lanes : (l r : List Float) → length l ≡ 4 → point_in l 2 ≡ point_in r 0 → l ≡ get_or l 0 nan ∷ get_or l 1 nan ∷ get_or r 0 nan ∷ get_or r 1 nan ∷ []

@@ -1,5 +1,5 @@
 -- What the code that writes a conic has where it writes one quad, and where it writes both halves.
-use mathlib.Core.Path.{◌≡◌, refl, sym, ap, ap₂, ◌∙◌}
+use mathlib.Core.Path.{◌≡◌, refl, sym, ap, ap₂, subst, ◌∙◌}
 use mathlib.Core.List.{List, [], ◌∷◌, ◌++◌, append_assoc}
 use mathlib.Core.Bool.{Bool, true, false, ◌&&◌, true≢false}
 use Prim.Native.Nat.{ℕ, zero, suc, ◌+◌, ◌-◌, ◌*◌, ◌%◌, ◌^◌, ◌≤◌, ◌<◌}
@@ -13,21 +13,27 @@ use lib.Ieee.{Float}
 use Rattle.geometry.specs.declared.Point.{Point}
 use Rattle.conic.specs.declared.Conic.{Conic}
 use Rattle.conic.specs.Conic.{Halves, split_of}
+use Rattle.conic.specs.declared.Lowered.{Lowered}
+use Rattle.conic.specs.declared.Lowered.TheVariants as lowered
+use Rattle.conic.specs.Vectors.{pair, conic_in}
 use Rattle.conic.specs.Halving.{Piece, piece_of, is_one_quad, halve, pieces_of, count_of, word_of}
 use Rattle.conic.proofs.Halving.{halve_two, split_some, half-span, word_append}
+use Rattle.conic.proofs.Vectors.{of_pairs}
 use Rattle.conic.proofs.Whole.{halve-ends}
 use Rattle.stream.specs.declared.Builder.{Builder}
 use Rattle.stream.specs.declared.Element.TheVariants.{Quad}
 use lib.Seq.{paste}
 use Rattle.std.proofs.lemmas.List.{length-replicate}
 use Rattle.std.proofs.lemmas.List.Edits.{paste_all}
-use Rattle.stream.specs.Stream.{put, all_floats, State, state, push, push_all, advance_of}
+use Rattle.stream.specs.Stream.{put, all_floats, State, state, push, push_all, advance_of, Fits}
 use Rattle.stream.proofs.Put.{put_one, put-after, length-put}
 use Rattle.stream.proofs.Pushed.{push_all-verbs, push-all_points, push_all-start, push_all-pen}
 use Rattle.stream.proofs.Past.{push_all_puts}
 use Rattle.stream.proofs.Lists.{floats_append, length_all}
-use Rattle.lowering.specs.Entries.{elements_of, quads_of, builder_at}
-use Rattle.lowering.proofs.Entries.{quads_append, quads-length, quads-sizes, quads-bytes, quads-start, quads-pen}
+use Rattle.lowering.specs.declared.Marks.{Marks}
+use Rattle.lowering.specs.Entries.{elements_of, quads_of, lowered_of, builder_at}
+use Rattle.lowering.specs.Quads.{Lowers}
+use Rattle.lowering.proofs.Entries.{lowered_curve, quads_append, quads-length, quads-sizes, quads-bytes, quads-start, quads-pen}
 
 -- ---- runs of stores
 
@@ -171,6 +177,17 @@ both-wrote ps l r {fs} {us} {gs} {at} {mid} h b x y =
 pub count_is : (c : Conic) → count_of c ≡ length (pieces_of c)
 unfolding count_of
 count_is c = refl
+
+-- a conic that is lowered to itself, in its two vectors: the room for it, and what is left behind it
+module _ {l : Lowered} {k : Conic} {e t : List Float} (is : l ≡ lowered.Curve k) (p : e ≡ pair k.from k.to) (q : t ≡ pair k.ctrl k.ctrl) where
+  pub curve_room : (b : Builder) (vs : List ℕ) (fs : List Float) → Fits b vs fs (elements_of (lowered_of l)) → (b.verbs + count_of (conic_in e t k.weight) ≤ length vs) × (2 * (b.points + 2 * count_of (conic_in e t k.weight)) ≤ length fs)
+  curve_room b vs fs s =
+      let h = lowered_curve l k is in
+      let n = ap count_of (of_pairs k e t p q) ∙ count_is k in
+      (omega (arith, s.0, h.many, n), omega (arith, s.1, h.size, n))
+
+  pub curve_lowers : (r : Marks) (v at : ℕ) (vs ws : List ℕ) (fs gs : List Float) → Lowers r v at (conic_in e t k.weight) vs fs ws gs → Lowers r v at k vs fs ws gs
+  curve_lowers r v at vs ws fs gs = subst (λ (c : Conic). Lowers r v at c vs fs ws gs) (of_pairs k e t p q)
 
 -- bytes and points in place are the quads pushed, wherever start and pen are
 pub whole-pushed : (v p n : ℕ) (c : Conic) (vs ws : List ℕ) (fs gs : List Float) → v + length (pieces_of c) ≤ length vs → 2 * (p + 2 * length (pieces_of c)) ≤ length fs → n ≡ length (pieces_of c)

@@ -1,14 +1,9 @@
-use mathlib.Core.Path.{sym, ap, subst, ◌∙◌}
-use lib.ListN.{length}
+use mathlib.Core.Path.{sym, ap, ◌∙◌}
 use native.Mathlib.Omega.{arith}
-use Rattle.conic.specs.declared.Conic.{Conic}
-use Rattle.conic.specs.Halving.{pieces_of, count_of}
-use Rattle.conic.proofs.Vectors.{of_pairs}
 use Rattle.stream.specs.Stream.{State, state, push_all}
 use Rattle.stream.proofs.Pushed.{push_all-one}
-use Rattle.lowering.specs.Quads.{Lowers}
 use Rattle.lowering.proofs.Entries.{lowered_line, lowered_curve}
-use Rattle.lowering.proofs.Writing.{count_is}
+use Rattle.lowering.proofs.Writing.{curve_room, curve_lowers}
 use Rattle.lowering.proofs.push_lowered.Goals as goal
 
 pub push-b2-requires : goal.push-b2-requires
@@ -17,19 +12,13 @@ push-b2-requires c =
     omega (arith, c.requires, h.many, h.size)
 
 pub push_quads-m-requires : goal.push_quads-m-requires
-push_quads-m-requires c =
-    let k = c.in-Curve.c in
-    let h = lowered_curve c.args.l _ c.in-Curve.is in
-    let s = c.requires in
-    let e = ap count_of (of_pairs k _ _ c.ends.ensures c.ctrl.ensures) in
-    (omega (arith, s, h.many, e, count_is k), omega (arith, s, h.size, e, count_is k))
+push_quads-m-requires c = curve_room c.in-Curve.is c.ends.ensures c.ctrl.ensures c.args.b c.args.verbs.now c.args.points.now c.requires
 
 pub after_quads-requires : goal.after_quads-requires
 after_quads-requires c =
-    let k = c.in-Curve.c in
     let h = lowered_curve c.args.l _ c.in-Curve.is in
-    let e = ap (λ (k : Conic). length (pieces_of k)) (of_pairs k _ _ c.ends.ensures c.ctrl.ensures) in
-    (omega (arith, c.requires, c.well_formed, c.push_quads-m.ensures.1, e, h.many, h.size), omega (arith, c.requires, c.well_formed, c.push_quads-m.ensures.1, e, h.many, h.size))
+    let n = (curve_lowers c.in-Curve.is c.ends.ensures c.ctrl.ensures _ _ _ _ _ _ _ c.push_quads-m.ensures).1 in
+    (omega (arith, c.requires, c.well_formed, n, h.many, h.size), omega (arith, c.requires, c.well_formed, n, h.many, h.size))
 
 pub returns-in-Line : goal.returns-in-Line
 returns-in-Line c =
@@ -43,6 +32,5 @@ returns-in-Curve c =
     let a = c.args in
     let s : State = state a.b a.verbs.now a.points.now in
     let h = lowered_curve c.args.l _ c.in-Curve.is in
-    let m = c.push_quads-m in
-    let e = subst (λ (k : Conic). Lowers m.result a.b.verbs a.b.points k a.verbs.now a.points.now m.new.verbs m.new.points) (of_pairs c.in-Curve.c _ _ c.ends.ensures c.ctrl.ensures) m.ensures in
+    let e = curve_lowers c.in-Curve.is c.ends.ensures c.ctrl.ensures _ _ _ _ _ _ _ c.push_quads-m.ensures in
     record { points_after = rw c.after_quads.ensures (e.0 a.b.start a.b.pen ∙ sym (ap (push_all s) h.elements)); word_value = e.2 ∙ sym h.word }
