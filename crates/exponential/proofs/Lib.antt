@@ -1,4 +1,3 @@
-pub mod Specials
 pub mod Integers
 pub mod Wholes
 pub mod Floors

@@ -15,9 +15,12 @@ moderate t = lt lowest t && lt t hundred
 abbrev pub log_of : Float → Float → Float → Float
 log_of s e h = add binary64 (mul binary64 e ln2) (mul binary64 (mul binary64 two s) h)
 
+unfoldable pub summed_of : Float → Float → Float
+summed_of s e = log_of s e (H odd_reciprocal (mul binary64 s s) 11)
+
 -- s and e are what the logarithm of u is worked out from
 abbrev pub SplitAt : Float → Float → Float → Type 0
-SplitAt s e u = log_of s e (H odd_reciprocal (mul binary64 s s) 11) ≡ ln_of u
+SplitAt s e u = summed_of s e ≡ ln_of u
 
 -- exp of r and of a whole number of times LN2, of which `power` is the power of 2
 unfoldable pub scaled_of : Float → Float → Float

@@ -14,7 +14,8 @@ ghost use Rattle.exponential.specs.Exponential.{floor_of, within, exp_of};
 ghost use Rattle.exponential.specs.Power.{zero, infinite, main_of, pow_of};
 ghost use Rattle.std.specs.Simd.Lanes.{zip2};
 ghost use Rattle.std.specs.List.{list_all};
-ghost use Rattle.exponential.specs.Plain.{SplitAt, scaled_of, plain_base, plain_exponent};
+ghost use Rattle.exponential.specs.Plain.{SplitAt, summed_of, moderate, scaled_of, plain_base, plain_exponent};
+ghost use Rattle.exponential.specs.declared.LogParts.{LogParts};
 ghost use Rattle.exponential.specs.declared.Reduced.{Reduced};
 
 const LN2: f64 = 0.6931471805599453;
@@ -60,16 +61,33 @@ struct LogParts {
     e: f64,
 }
 
-#[tactic(auto, unfolding(crate::specs::Logarithm::ln_at))]
+// `ieee::widen` of a number: there is no NaN to test for.
+fn wide(x: f32) -> f64
+    requires { ne x x ≡ false }
+    ensures { result ≡ widen_of x }
+{
+    x as f64
+}
+
+#[tactic(auto, unfolding(crate::specs::Logarithm::ln_at, crate::specs::Plain::summed_of))]
 fn log_parts_of(b: f32) -> LogParts
     requires { T (positive b) }
     ensures { SplitAt result.s result.e (widen_of b) }
 {
-    let p = parts_of(ieee::widen(b));
+    let p = parts_of(wide(b));
     LogParts {
         s: (p.f - 1.0) / (p.f + 1.0),
         e: p.e,
     }
+}
+
+// The logarithms of N numbers that are taken apart, in step.
+fn summed<const N: usize>(p: [LogParts; N]) -> [f64; N]
+    ensures { result ≡ map (λ (x : LogParts). summed_of x.s x.e) p.entry }
+{
+    let c = series::odd_reciprocals();
+    let h = series::horner(&c[..12], lanes::each(p, |p| p.s * p.s));
+    lanes::pairwise(p, h, |p, h| p.e * LN2 + (2.0 * p.s) * h)
 }
 
 // The logarithms of N numbers, in step. The bound on N, here and in each function below that has it: N records of two f64 fit in
@@ -79,10 +97,19 @@ fn logarithms<const N: usize>(b: [f32; N]) -> [f64; N]
     requires above_zero { All (λ (x : Float). T (positive x)) b }
     ensures { result ≡ map (λ (x : Float). ln_of (widen_of x)) b.entry }
 {
+    summed(lanes::each(b, log_parts_of))
+}
+
+// The same of N numbers and of N others. The two series stand one behind the other, so that a processor begins the second while
+// the first, the longest wait, goes on.
+fn logarithms_of_both<const N: usize>(b: [f32; N], c: [f32; N]) -> ([f64; N], [f64; N])
+    requires few { N < 2 ^ 59 }
+    requires above_zero { (All (λ (x : Float). T (positive x)) b) × (All (λ (x : Float). T (positive x)) c) }
+    ensures { result ≡ (map (λ (x : Float). ln_of (widen_of x)) b.entry, map (λ (x : Float). ln_of (widen_of x)) c.entry) }
+{
     let p = lanes::each(b, log_parts_of);
-    let c = series::odd_reciprocals();
-    let h = series::horner(&c[..12], lanes::each(p, |p| p.s * p.s));
-    lanes::pairwise(p, h, |p, h| p.e * LN2 + (2.0 * p.s) * h)
+    let q = lanes::each(c, log_parts_of);
+    (summed(p), summed(q))
 }
 
 // The greatest whole number not above q, and BIAS more.
@@ -125,7 +152,7 @@ fn scaled<const N: usize>(p: [Reduced; N]) -> [f64; N]
     lanes::pairwise(h, p, |h, p| h * p.power)
 }
 
-#[tactic(auto, using(crate::proofs::Specials::nan64_is, crate::proofs::Specials::inf64_is), unfolding(crate::specs::Exponential::exp_of))]
+#[tactic(auto, using(ieee::proofs::Specials::nan64_is, ieee::proofs::Specials::inf64_is), unfolding(crate::specs::Exponential::exp_of))]
 pub fn exp(t: f64) -> f64
     ensures { result ≡ exp_of t }
 {
@@ -142,15 +169,42 @@ pub fn exp(t: f64) -> f64
     e
 }
 
+fn all_moderate<const N: usize>(t: [f64; N]) -> bool
+    ensures { result ≡ list_all moderate t.entry }
+{
+    lanes::all_between_f64(t, -110.0, 100.0)
+}
+
+// Compiled apart, so that the usual case needs no more registers than it uses; `powers_apart` too.
+#[cold]
+#[inline(never)]
+fn exponentials_apart<const N: usize>(t: [f64; N]) -> [f64; N]
+    ensures { result ≡ map exp_of t.entry }
+{
+    lanes::each(t, exp)
+}
+
 // In step where each is moderate.
 fn exponentials<const N: usize>(t: [f64; N]) -> [f64; N]
     requires { N < 2 ^ 59 }
     ensures { result ≡ map exp_of t.entry }
 {
-    if lanes::all_between_f64(t, -110.0, 100.0) {
+    if all_moderate(t) {
         return scaled(lanes::each(t, reduce));
     }
-    lanes::each(t, exp)
+    exponentials_apart(t)
+}
+
+fn exponentials_of_both<const N: usize>(t: [f64; N], u: [f64; N]) -> ([f64; N], [f64; N])
+    requires { N < 2 ^ 59 }
+    ensures { result ≡ (map exp_of t.entry, map exp_of u.entry) }
+{
+    if all_moderate(t) & all_moderate(u) {
+        let p = lanes::each(t, reduce);
+        let q = lanes::each(u, reduce);
+        return (scaled(p), scaled(q));
+    }
+    (exponentials_apart(t), exponentials_apart(u))
 }
 
 fn is_infinite(x: f32) -> bool
@@ -159,7 +213,7 @@ fn is_infinite(x: f32) -> bool
     x == 1.0 / 0.0 || x == -1.0 / 0.0
 }
 
-#[tactic(auto, using(crate::proofs::Specials::inf32_is))]
+#[tactic(auto, using(ieee::proofs::Specials::inf32_is))]
 fn zero_or_infinity(is_zero: bool) -> f32
     ensures { result ≡ cond is_zero zero (inf false) }
 {
@@ -173,13 +227,33 @@ fn zero_or_infinity(is_zero: bool) -> f32
 fn main_powers<const N: usize>(b: [f32; N], y: [f32; N]) -> [f32; N]
     requires few { N < 2 ^ 59 }
     requires above_zero { All (λ (x : Float). T (positive x)) b }
+    requires numbers { All (λ (x : Float). ne x x ≡ false) y }
     ensures { result ≡ zip2 main_of b.entry y.entry }
 {
     let l = logarithms(b);
-    lanes::narrow(exponentials(lanes::pairwise(l, lanes::widen(y), |l, y| y * l)))
+    lanes::narrow(exponentials(lanes::pairwise(l, lanes::each(y, wide), |l, y| y * l)))
 }
 
-#[tactic(auto, using(crate::proofs::Specials::nan32_is), unfolding(crate::specs::Power::pow_of))]
+// The last rule of pow, twice.
+fn main_powers_of_both<const N: usize>(
+    b: [f32; N],
+    y: [f32; N],
+    c: [f32; N],
+    x: [f32; N],
+) -> ([f32; N], [f32; N])
+    requires few { N < 2 ^ 59 }
+    requires above_zero { (All (λ (x : Float). T (positive x)) b) × (All (λ (x : Float). T (positive x)) c) }
+    requires numbers { (All (λ (x : Float). ne x x ≡ false) y) × (All (λ (x : Float). ne x x ≡ false) x) }
+    ensures { result ≡ (zip2 main_of b.entry y.entry, zip2 main_of c.entry x.entry) }
+{
+    let (k, l) = logarithms_of_both(b, c);
+    let t = lanes::pairwise(k, lanes::each(y, wide), |k, y| y * k);
+    let u = lanes::pairwise(l, lanes::each(x, wide), |l, x| x * l);
+    let (e, f) = exponentials_of_both(t, u);
+    (lanes::narrow(e), lanes::narrow(f))
+}
+
+#[tactic(auto, using(ieee::proofs::Specials::nan32_is), unfolding(crate::specs::Power::pow_of))]
 pub fn pow(b: f32, y: f32) -> f32
     ensures { result ≡ pow_of b y }
 {
@@ -220,6 +294,14 @@ fn all_plain<const N: usize>(b: [f32; N], y: [f32; N]) -> bool
     base & exponent
 }
 
+#[cold]
+#[inline(never)]
+fn powers_apart<const N: usize>(b: [f32; N], y: [f32; N]) -> [f32; N]
+    ensures { result ≡ zip2 pow_of b.entry y.entry }
+{
+    lanes::pairwise(b, y, pow)
+}
+
 // The powers of N bases, each by the exponent at its place. They go in step where none is a special case, so that none waits for another.
 pub fn powers<const N: usize>(b: [f32; N], y: [f32; N]) -> [f32; N]
     requires { N < 2 ^ 59 }
@@ -228,5 +310,25 @@ pub fn powers<const N: usize>(b: [f32; N], y: [f32; N]) -> [f32; N]
     if all_plain(b, y) {
         return main_powers(b, y);
     }
-    lanes::pairwise(b, y, pow)
+    powers_apart(b, y)
+}
+
+// The powers of N bases and of N others. One or two go in step with as many others where none is a special case, the series of
+// the one behind those of the other: they alone are a chain that leaves a processor idle, which more of them keep busy.
+pub fn powers_of_both<const N: usize>(
+    b: [f32; N],
+    y: [f32; N],
+    c: [f32; N],
+    x: [f32; N],
+) -> ([f32; N], [f32; N])
+    requires { N < 2 ^ 59 }
+    ensures { result ≡ (zip2 pow_of b.entry y.entry, zip2 pow_of c.entry x.entry) }
+{
+    if N > 2 {
+        return (powers(b, y), powers(c, x));
+    }
+    if all_plain(b, y) & all_plain(c, x) {
+        return main_powers_of_both(b, y, c, x);
+    }
+    (powers(b, y), powers(c, x))
 }

@@ -1,7 +1,7 @@
 -- The simple operations, by the comparisons that the code makes and by the pattern. Assumes nothing.
 use Rattle.std.proofs.Common.{◌≡◌, ℕ, zero, suc, ◌+◌, ◌*◌, ◌%◌, ◌<◌, Bool, true, false, cond, not, ◌&&◌, T, ℤ, sym, refl, ap, ◌∙◌, subst, mod-eq_of_lt, zero-add, arith}
 use native.Mathlib.Nat.{add-mod_left}
-use lib.Ieee.{Float, Format, nan, inf, fin, binary32, neg, div, lt, ne, fits, is_nan, of_bits, to_bits, nan_bits, top, hid, ones}
+use lib.Ieee.{Float, Format, nan, inf, fin, lt, ne, fits, is_nan, of_bits, to_bits, nan_bits, top, hid, ones}
 use lib.Ieee.Bits.{to_bits-lt}
 use lib.Ieee.Compare.{differs_from_itself}
 use lib.Ieee.Fits.{inf-fits}
@@ -9,15 +9,6 @@ use lib.Ieee.Scale.{finite}
 use Rattle.std.specs.Float.{float_with_sign}
 use Rattle.ieee.specs.Basic.{abs_of}
 use Rattle.ieee.proofs.Units.{bits-inf, no_nan-bits, read_back, self_equal}
-
--- ---- the constants, as the code makes them
-pub inf32_is : div binary32 (of_bits binary32 0x3f80_0000) (of_bits binary32 0) ≡ inf false
-unfolding div of_bits
-inf32_is = refl
-
-pub minus_inf32_is : div binary32 (neg (of_bits binary32 0x3f80_0000)) (of_bits binary32 0) ≡ inf true
-unfolding div neg of_bits
-minus_inf32_is = refl
 
 -- ---- the library's `abs` clears the sign as `abs_of` does
 pub with_plus : (x : Float) → float_with_sign false x ≡ abs_of x

@@ -63,7 +63,7 @@ both_64 true false = refl
 both_64 false true = refl
 both_64 false false = refl
 
-first_64 : (b : Bool) → top (hbits w64) (mask w64 b) ≡ b
+pub first_64 : (b : Bool) → top (hbits w64) (mask w64 b) ≡ b
 first_64 true = refl
 first_64 false = refl
 

@@ -1,5 +1,5 @@
 -- Lists that agree with a relation place by place.
-use Rattle.std.proofs.Common.{◌≡◌, Bool, true, map, length, All, slice_index_or, ℕ, zero, suc, ◌<◌, ◌+◌, List, [], ◌∷◌, refl, ◌≤◌, subst, sym, ◌∙◌}
+use Rattle.std.proofs.Common.{◌≡◌, Bool, true, false, ◌&&◌, ap, map, length, All, slice_index_or, ℕ, zero, suc, ◌<◌, ◌+◌, List, [], ◌∷◌, refl, ◌≤◌, subst, sym, ◌∙◌}
 use Rattle.std.specs.List.{AllZip, list_all}
 use Rattle.std.specs.Simd.Lanes.{zip2}
 use Rattle.std.specs.Array.{IsFromFnResultFrom}
@@ -110,3 +110,24 @@ All-one P a p (suc i) d h = absurd (omega arith)
 pub map-agree : {A B : Type 0} (p : A → Bool) (f g : A → B) → ((a : A) → p a ≡ true → f a ≡ g a) → (xs : List A) → list_all p xs ≡ true → map f xs ≡ map g xs
 map-agree p f g k [] e = refl
 map-agree p f g k (x ∷ xs) e = let t = both (p x) (list_all p xs) e in rw (k x t.0, map-agree p f g k xs t.1)
+
+-- ---- tests of all
+
+pub all_and : {A : Type 0} (p q : A → Bool) (xs : List A) → (list_all p xs && list_all q xs) ≡ list_all (λ (x : A). p x && q x) xs
+all_and p q [] = refl
+all_and p q (x ∷ xs) = moved (p x) (q x) (list_all p xs) (list_all q xs) ∙ ap (λ (r : Bool). (p x && q x) && r) (all_and p q xs)
+  where
+    moved : (a b c d : Bool) → ((a && c) && (b && d)) ≡ ((a && b) && (c && d))
+    moved false b c d = refl
+    moved true true c d = refl
+    moved true false true d = refl
+    moved true false false d = refl
+
+-- r of each two at the same place, where r follows from what each list passes
+pub all_pairs : {A B : Type 0} (p : A → Bool) (q : B → Bool) (r : A → B → Bool) → ((a : A) (b : B) → p a ≡ true → q b ≡ true → r a b ≡ true) → (xs : List A) (ys : List B) → list_all p xs ≡ true → list_all q ys ≡ true → list_all (λ (b : Bool). b) (zip2 r xs ys) ≡ true
+all_pairs p q r k [] ys d e = refl
+all_pairs p q r k (x ∷ xs) [] d e = refl
+all_pairs p q r k (x ∷ xs) (y ∷ ys) d e =
+    let first = both (p x) (list_all p xs) d in
+    let second = both (q y) (list_all q ys) e in
+    rw (k x y first.0 second.0) (all_pairs p q r k xs ys first.1 second.1)

@@ -7,12 +7,17 @@ ghost use Rattle.std.specs.Prelude.{◌≡◌, ◌<◌, ◌&&◌, map, All, Bool
 ghost use Rattle.std.specs.Float.Ieee.{lt, ne};
 ghost use Rattle.std.specs.List.{AllZip, list_all};
 ghost use Rattle.std.specs.Simd.Lanes.{zip2};
-ghost use Rattle.ieee.specs.Basic.{widen_of};
-ghost use Rattle.ieee.specs.Narrow.{narrow_of};
+ghost use Rattle.ieee.specs.Narrow.{narrow_of, regular};
 
 use std::simd::prelude::*;
 
+// The least normal f32, 2^-126, and the least number that is too large for one, 2^128.
+const LEAST_NORMAL: f64 = 1.1754943508222875e-38;
+
+const TWO_TO_128: f64 = 3.402823669209385e38;
+
 // What f makes of each. Not the array's own `map`, which asks more of callers: that an iterator over the array fits in memory.
+#[inline(always)]
 pub fn each<A: Copy, B, F: Fn(A) -> B, const N: usize>(x: [A; N], f: F) -> [B; N]
     requires { All (F.pre f) x }
     ensures values { AllZip (F.post f) x result }
@@ -28,6 +33,7 @@ pub fn each<A: Copy, B, F: Fn(A) -> B, const N: usize>(x: [A; N], f: F) -> [B; N
 }
 
 // What f makes of each two at the same place.
+#[inline(always)]
 pub fn pairwise<A: Copy, B: Copy, C, F: Fn(A, B) -> C, const N: usize>(
     x: [A; N],
     y: [B; N],
@@ -86,19 +92,30 @@ pub fn all_differ<const N: usize>(x: [f32; N], number: f32) -> bool
     differ.to_simd().reduce_and() < 0
 }
 
-pub fn widen<const N: usize>(x: [f32; N]) -> [f64; N]
-    ensures { result ≡ map widen_of x.entry }
+// Each is negated where it is below 0: its size, whatever the sign of a zero.
+fn all_regular<const N: usize>(x: [f64; N]) -> bool
+    ensures { result ≡ list_all regular x.entry }
 {
-    each(x, ieee::widen)
+    let v = Simd::<f64, N>::from_array(x);
+    let sizes = v.simd_lt(Simd::<f64, N>::splat(0.0)).select(-v, v);
+    all_between_f64(sizes.to_array(), LEAST_NORMAL, TWO_TO_128)
+}
+
+// Compiled apart, so that the usual case needs no more registers than it uses.
+#[cold]
+#[inline(never)]
+fn narrow_apart<const N: usize>(x: [f64; N]) -> [f32; N]
+    ensures { result ≡ map narrow_of x.entry }
+{
+    each(x, ieee::narrow)
 }
 
 // One test tells whether all are regular, the usual case. Then none of them branches, and a processor rounds them at once.
 pub fn narrow<const N: usize>(x: [f64; N]) -> [f32; N]
     ensures { result ≡ map narrow_of x.entry }
 {
-    let sizes = each(x, ieee::abs_f64);
-    if all_between_f64(sizes, 1.1754943508222875e-38, 3.402823669209385e38) {
+    if all_regular(x) {
         return each(x, ieee::narrow_regular);
     }
-    each(x, ieee::narrow)
+    narrow_apart(x)
 }

@@ -68,13 +68,13 @@ fn drawn<const N: usize>(s: [Start; N]) -> [SuperellipseConics; N]
     ensures { result ≡ map drawn_of s.entry }
 {
     let n = lanes::each(s, |s| s.octant.se_n);
-    let powers = exponential::powers(lanes::each(s, |s| s.y), n);
+    let less = lanes::each(n, |n| n - 1.0);
+    let at_circle = lanes::each(s, |s| ratio(s.octant.circle_start));
+    let (powers, at_j) = exponential::powers_of_both(lanes::each(s, |s| s.y), n, at_circle, less);
     let rests = lanes::each(powers, |p| 1.0 - p);
     let roots = exponential::powers(rests, lanes::each(n, |n| 1.0 / n));
     let h = lanes::pairwise(s, roots, met);
-    let less = lanes::each(n, |n| n - 1.0);
     let at_h = exponential::powers(lanes::each(h, ratio), less);
-    let at_j = exponential::powers(lanes::each(s, |s| ratio(s.octant.circle_start)), less);
     let slopes = lanes::pairwise(at_h, at_j, |at_h, at_j| Slopes { at_h, at_j });
     let ends = lanes::pairwise(h, slopes, |h, slopes| End { h, slopes });
     lanes::pairwise(s, ends, |s, e| {

@@ -4,9 +4,12 @@ use mathlib.Core.List.{List, map}
 use Rattle.std.specs.List.{list_all}
 use Rattle.std.specs.Simd.Lanes.{zip2}
 use mathlib.Core.Bool.{Bool, true, false, cond, not, ◌&&◌, false≢true}
-use lib.Ieee.{Float, binary64, add, sub, mul, div, eq, le}
+use lib.Ieee.{Float, inf, binary64, add, sub, mul, div, eq, ne, lt, le}
 use lib.Ieee.Scale.{finite}
-use Rattle.lanes.proofs.Places.{map-of_map, map-of_zip2, zip2-of_map_right, zip2-agree}
+use Rattle.lanes.proofs.Places.{map-of_map, map-of_zip2, zip2-of_map_right, zip2-agree, all_and, all_pairs}
+use Rattle.ieee.proofs.Simple.{finite-is}
+use Rattle.ieee.proofs.Tests.{both}
+use Rattle.std.proofs.lemmas.Bool.{not-true}
 use Rattle.ieee.specs.Basic.{widen_of, abs_of}
 use Rattle.ieee.specs.Narrow.{narrow_of}
 use Rattle.series.specs.Horner.{horner_of}
@@ -55,8 +58,24 @@ plain-is y x h = last_rule (finite y) (finite x) (eq y zero && eq x zero) _ _ _ 
 pub by_stages : (p : List Place) (r f v : List Float) → r ≡ map ratio_of p → f ≡ map arctangent_of r → v ≡ zip2 turned_of p f → v ≡ map angle_of p
 by_stages p r f v er ef ev = zip2-of_map_right turned_of (λ (q : Place). arctangent_of (ratio_of q)) angle_of angle_by p f v (map-of_map arctangent_of ratio_of p r f er ef) ev
 
+-- more than plain
+abbrev pub whole : Float → Bool
+whole x = lt (inf true) x && lt x (inf false)
+
+more : (y x : Float) → (whole y && ne y zero) ≡ true → whole x ≡ true → plain y x ≡ true
+unfolding plain ne
+more y x d e =
+    let first = both (whole y) (ne y zero) d in
+    rw (sym (finite-is y) ∙ first.0, sym (finite-is x) ∙ e, not-true (eq y zero) first.1)
+
+pub all_plain : (y x : List Float) → ((list_all whole y && list_all whole x) && list_all (λ (a : Float). ne a zero) y) ≡ true → list_all (λ (b : Bool). b) (zip2 plain y x) ≡ true
+all_plain y x e =
+    let each = both (list_all whole y && list_all whole x) (list_all (λ (a : Float). ne a zero) y) e in
+    let finite = both (list_all whole y) (list_all whole x) each.0 in
+    all_pairs (λ (a : Float). whole a && ne a zero) whole plain more y x (sym (all_and whole (λ (a : Float). ne a zero) y) ∙ rw (finite.0, each.1)) finite.1
+
 -- the angles of points that are all plain, as they are worked out in step
-pub in_step : (y x : List Float) (p : List Place) (v r : List Float) (all : Bool) → all ≡ list_all (λ (b : Bool). b) (zip2 plain y x) → all ≡ true
+pub in_step : (y x : List Float) (p : List Place) (v r : List Float) → list_all (λ (b : Bool). b) (zip2 plain y x) ≡ true
     → p ≡ zip2 place_of y x → v ≡ map angle_of p → r ≡ map narrow_of v → r ≡ zip2 atan2_of y x
-in_step y x p v r all e h ep ev er =
-    rw (er, ev, ep, map-of_zip2, map-of_zip2) (sym (zip2-agree plain atan2_of (λ (b a : Float). narrow_of (angle_of (place_of b a))) plain-is y x (sym e ∙ h)))
+in_step y x p v r h ep ev er =
+    rw (er, ev, ep, map-of_zip2, map-of_zip2) (sym (zip2-agree plain atan2_of (λ (b a : Float). narrow_of (angle_of (place_of b a))) plain-is y x h))

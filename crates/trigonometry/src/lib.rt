@@ -3,7 +3,7 @@
 
 #![tactic(auto)]
 
-ghost use Rattle.std.specs.Prelude.{◌≡◌, ◌<◌, ◌^◌, map, cond, not, ◌&&◌, ◌||◌, Bool};
+ghost use Rattle.std.specs.Prelude.{◌≡◌, ◌<◌, ◌^◌, map, cond, not, true, ◌&&◌, ◌||◌, Bool};
 ghost use Rattle.std.specs.List.{list_all};
 ghost use Rattle.std.specs.Float.Ieee.Scale.{finite};
 ghost use Rattle.std.specs.Float.{nan, binary64};
@@ -91,7 +91,7 @@ fn in_range(t: f32) -> bool
 }
 
 // An angle, widened; one that has no sine becomes a NaN, whose sine and cosine are NaNs.
-#[tactic(auto, using(crate::proofs::Specials::nan64_is, crate::proofs::Range::widened), unfolding(ieee::specs::Basic::widen_of))]
+#[tactic(auto, using(ieee::proofs::Specials::nan64_is, crate::proofs::Range::widened), unfolding(ieee::specs::Basic::widen_of))]
 fn bounded(t: f32) -> f64
     ensures { result ≡ cond (ne t t || lt eight (abs_of t)) nan (widen_of t) }
 {
@@ -109,7 +109,7 @@ pub fn pairs_at<const N: usize>(t: [f32; N]) -> Pairs<N>
 }
 
 // By a branch, since one angle alone would wait for the choice that `bounded` makes.
-#[tactic(auto, using(crate::proofs::Specials::nan64_is, crate::proofs::Range::widened), unfolding(crate::specs::Sine::pair_of, ieee::specs::Basic::widen_of))]
+#[tactic(auto, using(ieee::proofs::Specials::nan64_is, crate::proofs::Range::widened), unfolding(crate::specs::Sine::pair_of, ieee::specs::Basic::widen_of))]
 fn pair_at(t: f32) -> Pair
     ensures { result ≡ pair_of (widen_of t) }
 {
@@ -273,7 +273,7 @@ fn both_finite(y: f32, x: f32) -> bool
     ieee::is_finite(y) && ieee::is_finite(x)
 }
 
-#[tactic(auto, using(crate::proofs::Specials::nan32_is, crate::proofs::Specials::zero_is), unfolding(crate::specs::Arctangent::atan2_of, crate::specs::Stages::angle_of, ieee::specs::Basic::widen_of))]
+#[tactic(auto, using(ieee::proofs::Specials::nan32_is, crate::proofs::Specials::zero_is), unfolding(crate::specs::Arctangent::atan2_of, crate::specs::Stages::angle_of, ieee::specs::Basic::widen_of))]
 pub fn atan2(y: f32, x: f32) -> f32
     ensures { result ≡ atan2_of y x }
 {
@@ -287,18 +287,22 @@ pub fn atan2(y: f32, x: f32) -> f32
     0.0 / 0.0
 }
 
-// Whether none of atan2's rules but the last applies.
-#[tactic(auto, using(crate::proofs::Specials::zero_is), unfolding(crate::specs::Stages::plain))]
-fn is_plain(y: f32, x: f32) -> bool
-    ensures { result ≡ plain y x }
+// Whether none of atan2's rules but the last applies. More is asked, that no y is 0: so three tests of whole arrays are enough.
+fn all_plain<const N: usize>(y: [f32; N], x: [f32; N]) -> bool
+    ensures { result ≡ true → list_all (λ (b : Bool). b) (zip2 plain y.entry x.entry) ≡ true }
 {
-    both_finite(y, x) & !((y == 0.0) & (x == 0.0))
+    let finite = lanes::all_between(y, -1.0 / 0.0, 1.0 / 0.0)
+        & lanes::all_between(x, -1.0 / 0.0, 1.0 / 0.0);
+    finite & lanes::all_differ(y, 0.0)
 }
 
-fn all_plain<const N: usize>(y: [f32; N], x: [f32; N]) -> bool
-    ensures { result ≡ list_all (λ (b : Bool). b) (zip2 plain y.entry x.entry) }
+// Compiled apart, so that the usual case needs no more registers than it uses.
+#[cold]
+#[inline(never)]
+fn angles_apart<const N: usize>(y: [f32; N], x: [f32; N]) -> [f32; N]
+    ensures { result ≡ zip2 atan2_of y.entry x.entry }
 {
-    lanes::all(lanes::pairwise(y, x, is_plain), |p| p)
+    lanes::pairwise(y, x, atan2)
 }
 
 // The angles of N points. They go in step where none is a special case, so that none waits for another. N places of two f64 fit in
@@ -310,7 +314,7 @@ pub fn angles<const N: usize>(y: [f32; N], x: [f32; N]) -> [f32; N]
     if all_plain(y, x) {
         return lanes::narrow(main_angles(lanes::pairwise(y, x, widened)));
     }
-    lanes::pairwise(y, x, atan2)
+    angles_apart(y, x)
 }
 
 // The angles of N points (x, y) and of N others (u, v). The two series stand one behind the other, so that a processor begins the

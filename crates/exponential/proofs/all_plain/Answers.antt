@@ -3,7 +3,7 @@ use mathlib.Core.Bool.{Bool, ◌&&◌}
 use Rattle.std.specs.List.{list_all}
 use Rattle.exponential.specs.Plain.{plain_base, plain_exponent}
 use Rattle.exponential.proofs.Plains.{all_bases, all_exponents}
-use Rattle.exponential.proofs.Specials.{inf32_is, minus_inf32_is}
+use Rattle.ieee.proofs.Specials.{inf32_is, minus_inf32_is}
 use Rattle.exponential.proofs.all_plain.Goals as goal
 
 pub returns : goal.returns

@@ -5,7 +5,7 @@ use lib.Ieee.Compare.{differs_from_itself}
 use Rattle.series.specs.Horner.{horner_of}
 use Rattle.series.specs.Coefficients.{H, terms, factorial_reciprocal, reciprocal}
 use Rattle.exponential.specs.Exponential.{exp_of, floor_of}
-use Rattle.exponential.proofs.Specials.{nan64_is}
+use Rattle.ieee.proofs.Specials.{nan64_is}
 use Rattle.exponential.proofs.exp.Goals as goal
 
 -- a NaN goes through every step

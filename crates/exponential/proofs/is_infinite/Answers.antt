@@ -1,5 +1,5 @@
 use mathlib.Core.Path.{sym, ◌∙◌}
-use Rattle.exponential.proofs.Specials.{inf32_is, minus_inf32_is}
+use Rattle.ieee.proofs.Specials.{inf32_is, minus_inf32_is}
 use Rattle.exponential.proofs.Rules.{infinite-up, infinite-down}
 use Rattle.exponential.proofs.is_infinite.Goals as goal
 

@@ -1,18 +1,12 @@
-use Rattle.std.proofs.Common.{Bool, ◌&&◌, Float, sym, ◌∙◌}
+use Rattle.std.proofs.Common.{sym, ◌∙◌}
 use native.Mathlib.Omega.{arith}
-use Rattle.lanes.proofs.Places.{zip2-agree, All-from_zip2}
-use Rattle.exponential.specs.Power.{main_of, pow_of}
-use Rattle.exponential.specs.Plain.{plain_base, plain_exponent}
-use Rattle.exponential.proofs.Plains.{plain-is, all_pairs}
+use Rattle.exponential.proofs.Plains.{all_above, all_numbers, all_main}
 use Rattle.exponential.proofs.powers.Goals as goal
 
-plain : Float → Float → Bool
-plain b y = plain_base b && plain_exponent y
-
 pub main_powers-requires : goal.main_powers-requires
-unfolding plain
-main_powers-requires g c = (omega arith, (omega arith, All-from_zip2 plain _ (λ a b e. (plain-is a b e).0) c.args.b c.args.y (omega arith) (all_pairs c.args.b c.args.y (sym c.all_plain.ensures ∙ c.if-all_plain.true))))
+main_powers-requires g c =
+    let plain = sym c.all_plain.ensures ∙ c.if-all_plain.true in
+    (omega arith, (omega arith, (all_above c.args.b c.args.y plain, all_numbers c.args.b c.args.y plain)))
 
 pub returns-then-all_plain : goal.returns-then-all_plain
-unfolding plain
-returns-then-all_plain g c = c.main_powers.ensures ∙ sym (zip2-agree plain pow_of main_of (λ a b e. (plain-is a b e).1) c.args.b c.args.y (all_pairs c.args.b c.args.y (sym c.all_plain.ensures ∙ c.if-all_plain.true)))
+returns-then-all_plain g c = c.main_powers.ensures ∙ sym (all_main c.args.b c.args.y (sym c.all_plain.ensures ∙ c.if-all_plain.true))

@@ -1,4 +1,5 @@
-use Rattle.ieee.proofs.Simple.{finite-is, minus_inf32_is, inf32_is}
+use Rattle.ieee.proofs.Simple.{finite-is}
+use Rattle.ieee.proofs.Specials.{inf32_is, minus_inf32_is}
 use Rattle.ieee.proofs.is_finite.Goals as goal
 
 pub returns-then-x : goal.returns-then-x

@@ -1,17 +1,13 @@
 -- `ieee::narrow` meets its contract: the pattern that it makes is that of `narrow_of x` (`Narrowing.made`). Assumes nothing.
 use Rattle.std.proofs.Common.{◌≡◌, ◌+◌, ◌*◌, ◌/◌, ◌^◌, not, T, sym, refl, ap, ◌∙◌, subst, arith}
-use lib.Ieee.{binary32, binary64, fits, is_nan, to_bits, of_bits, nan, div}
+use lib.Ieee.{binary64, fits, is_nan, to_bits, nan}
 use lib.Ieee.Compare.{differs_from_itself}
 use Rattle.ieee.specs.Narrow.{narrow_of}
+use Rattle.ieee.proofs.Specials.{nan32_is}
 use Rattle.ieee.proofs.Units.{self_equal}
 use Rattle.ieee.proofs.Narrowing.{Narrows, made}
 use Rattle.ieee.proofs.narrow.Goals as goal
 use Rattle.ieee.proofs.narrow.Goals.{After-rounded-p, Else-x, Start}
-
--- 0 / 0
-zero_by_zero : div binary32 (of_bits binary32 0) (of_bits binary32 0) ≡ nan
-unfolding div of_bits
-zero_by_zero = refl
 
 of_nan : narrow_of nan ≡ nan
 unfolding narrow_of
@@ -30,7 +26,7 @@ pattern : (c : After-rounded-p) → Narrows c.args.x (to_bits binary64 c.args.x 
 pattern c = made c.args.x c.rounded-p.result (held c.before.before) (is_number c.before) c.rounded-p.ensures
 
 pub returns-then-x : goal.returns-then-x
-returns-then-x c = zero_by_zero ∙ sym (ap narrow_of (differs_from_itself c.args.x (subst T (sym c.if-x.true) tt)) ∙ of_nan)
+returns-then-x c = nan32_is ∙ sym (ap narrow_of (differs_from_itself c.args.x (subst T (sym c.if-x.true) tt)) ∙ of_nan)
 
 pub rounded-p-requires : goal.rounded-p-requires
 rounded-p-requires c = omega arith

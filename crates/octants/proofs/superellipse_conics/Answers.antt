@@ -2,7 +2,6 @@ use Rattle.std.proofs.Common.{rules, map, ap, ◌∙◌}
 use Rattle.lanes.proofs.Places.{map-of_zip2}
 use Rattle.arcs.specs.Conics.{superellipse_conics_of}
 use Rattle.octants.specs.Octants.{start_of, drawn_of}
-use Rattle.octants.specs.declared.Start.{Start}
 use Rattle.octants.proofs.superellipse_conics.Goals as goal
 
 pub returns : goal.returns

@@ -1,7 +1,7 @@
-use Rattle.std.proofs.Common.{Bool, rules, ap, ◌∙◌}
-use Rattle.std.specs.List.{list_all}
-use Rattle.trigonometry.specs.Stages.{plain}
+use Rattle.ieee.proofs.Specials.{inf32_is, minus_inf32_is}
+use Rattle.trigonometry.proofs.Choices.{all_plain}
+use Rattle.trigonometry.proofs.Specials.{zero_is}
 use Rattle.trigonometry.proofs.all_plain.Goals as goal
 
 pub returns : goal.returns
-returns g c = c.all.ensures (λ (b : Bool). b) (λ a b e. search rules) ∙ ap (list_all (λ (b : Bool). b)) (c.pairwise.ensures plain (λ a b r e. e))
+returns g c e = all_plain c.args.y c.args.x (rw (inf32_is, minus_inf32_is, zero_is) at (rw (c.all_between.ensures, c.all_between-2.ensures, c.all_differ.ensures) at e))

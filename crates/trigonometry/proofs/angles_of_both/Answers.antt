@@ -11,5 +11,5 @@ returns-then-all_plain g c =
     let a = by_stages _ _ _ _ (c.each-r.ensures.mapped ratio_of (λ a b e. e)) c.arctangents-f.ensures (c.pairwise-a.ensures turned_of (λ a b r e. e)) in
     let b = by_stages _ _ _ _ (c.each-s.ensures.mapped ratio_of (λ a b e. e)) c.arctangents-g.ensures (c.pairwise-b.ensures turned_of (λ a b r e. e)) in
     ap₂ (λ a b. (a, b))
-    (in_step c.args.y c.args.x _ _ _ _ c.all_plain.ensures plain.0 (c.pairwise-p.ensures place_of (λ a b r e. search rules)) a c.narrow.ensures)
-    (in_step c.args.v c.args.u _ _ _ _ c.all_plain-2.ensures plain.1 (c.pairwise-q.ensures place_of (λ a b r e. search rules)) b c.narrow-then-all_plain.ensures)
+    (in_step c.args.y c.args.x _ _ _ (c.all_plain.ensures plain.0) (c.pairwise-p.ensures place_of (λ a b r e. search rules)) a c.narrow.ensures)
+    (in_step c.args.v c.args.u _ _ _ (c.all_plain-2.ensures plain.1) (c.pairwise-q.ensures place_of (λ a b r e. search rules)) b c.narrow-then-all_plain.ensures)

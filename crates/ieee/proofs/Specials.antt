@@ -1,4 +1,4 @@
--- The infinities and the NaNs, as the code makes them. Assumes nothing.
+-- The NaNs and the infinities, as code makes them. Assumes nothing.
 use mathlib.Core.Path.{◌≡◌, refl}
 use mathlib.Core.Bool.{true, false}
 use lib.Ieee.{nan, inf, binary32, binary64, of_bits, div, neg}
