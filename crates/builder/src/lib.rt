@@ -4,14 +4,18 @@
 
 #![tactic(auto)]
 
-ghost use Rattle.std.specs.Prelude.{◌≡◌, [], ◌∷◌, ◌++◌, ◌+◌, ◌-◌, ◌*◌, ◌≤◌, length};
+ghost use Rattle.std.specs.Prelude.{◌≡◌, false, [], ◌∷◌, ◌++◌, ◌+◌, ◌-◌, ◌*◌, ◌≤◌, length};
+ghost use Rattle.conic.specs.Conic.{flat_of};
+ghost use Rattle.conic.specs.Vectors.{conic_in};
 ghost use Rattle.stream.specs.Stream.{state, is_empty, push_all};
-ghost use Rattle.lowering.specs.Entries.{plain, elements_of};
+ghost use Rattle.lowering.specs.Entries.{plain, elements_of, lowered_of};
 ghost use Rattle.calls.specs.Calls.{opening, attempt, outcome_of, conic_outcome_of, step};
 
 use calls::{BuildError, Call};
+use conic::Lowered;
 use geometry::Point;
 use lowering::Written;
+use std::simd::prelude::*;
 use stream::{Builder, Element, Need};
 
 // The opening move of a builder that is empty.
@@ -91,6 +95,27 @@ pub fn cubic_to(
     add(b, verbs, points, Element::Cubic(c0, c1, p))
 }
 
+// The quads of a conic that is more than one, behind the opening move of a builder that is empty. Compiled apart, since it
+// is long and what calls it need not be. The conic comes as vectors and a number, which stay in registers.
+#[inline(never)]
+fn split_to(
+    b: Builder,
+    verbs: &mut [u8],
+    points: &mut [f32],
+    ends: f32x4,
+    ctrl: f32x4,
+    weight: f32,
+) -> Result<Written, BuildError>
+    requires { flat_of (conic_in ends ctrl weight) ≡ false }
+    ensures { conic_outcome_of result verbs.new points.new ≡ attempt (state b verbs.old points.old) (opening (is_empty b) ++ lowered_of (Lowered.Curve (conic_in ends ctrl weight))) }
+{
+    let l = Lowered::Curve(conic::of_vectors(ends, ctrl, weight));
+    calls::admit_lowered(b, verbs.len(), points.len(), l)?;
+    let o = ensure_started(b, verbs, points);
+    Ok(lowering::push_split(o, verbs, points, ends, ctrl, weight))
+}
+
+// A line and a single quad, which starts at bit 0, are elements by themselves.
 pub fn conic_to(
     b: Builder,
     verbs: &mut [u8],
@@ -101,10 +126,17 @@ pub fn conic_to(
 ) -> Result<Written, BuildError>
     ensures { conic_outcome_of result verbs.new points.new ≡ step (state b verbs.old points.old) (Call.ConicTo ctrl to weight) }
 {
-    let l = conic::lower(calls::conic_from(b, ctrl, to, weight));
-    calls::admit_lowered(b, verbs.len(), points.len(), l)?;
-    let o = ensure_started(b, verbs, points);
-    Ok(lowering::push_lowered(o, verbs, points, l))
+    match conic::lower(calls::conic_from(b, ctrl, to, weight)) {
+        Lowered::Line(p) => calls::with_word(add(b, verbs, points, Element::Line(p)), 0),
+        Lowered::Curve(c) => {
+            if conic::is_flat(c) {
+                let quad = Element::Quad(c.ctrl, c.to);
+                return calls::with_word(add(b, verbs, points, quad), 1);
+            }
+            let ends = conic::ends(c);
+            split_to(b, verbs, points, ends, conic::ctrl(c), c.weight)
+        }
+    }
 }
 
 // On an empty builder a close is accepted, and changes nothing.

@@ -1,5 +1,6 @@
 -- A call that adds es, behind the opening move where the path is empty: its need, its room and its outcome.
-use mathlib.Core.Path.{◌≡◌, refl, sym, ap, ◌∙◌}
+use mathlib.Core.Path.{◌≡◌, refl, sym, ap, ap₂, ◌∙◌}
+use mathlib.Core.Bool.{Bool, true, false, cond}
 use mathlib.Core.List.{List, [], ◌∷◌, ◌++◌}
 use Prim.Native.Nat.{ℕ, ◌+◌, ◌-◌, ◌*◌, ◌≤◌}
 use native.Mathlib.Omega.{arith}
@@ -15,7 +16,7 @@ use Rattle.std.proofs.Common.{Result, Ok, Err}
 use Rattle.stream.specs.declared.Builder.{Builder}
 use Rattle.stream.specs.declared.Element.{Element}
 use Rattle.stream.specs.declared.Need.{Need}
-use Rattle.stream.specs.Stream.{State, is_empty, need_of, push, push_all, size_of, sizes_of}
+use Rattle.stream.specs.Stream.{State, is_empty, bad_state, room_for, need_of, push, push_all, size_of, sizes_of}
 use Rattle.stream.proofs.Tests.{room-is}
 use Rattle.stream.proofs.Pushed.{push_all-one, push_all_append, push_all-verbs, push-all_points, sizes_append, sizes-one}
 use Rattle.lowering.specs.declared.Written.{Written}
@@ -23,9 +24,10 @@ use Rattle.lowering.specs.Entries.{Entry, plain, elements_of, pieces_in, joint_w
 use Rattle.lowering.proofs.Entries.{elements_append}
 use Rattle.calls.specs.declared.BuildError.{BuildError}
 use Rattle.calls.specs.declared.Call.TheVariants as call
-use Rattle.calls.specs.Calls.{opening, opened_need, conic_from, entries_of, outcome, attempt, step, admit_of, refusal_of, outcome_of, conic_outcome_of}
+use Rattle.calls.specs.Calls.{Outcome, opening, opened_need, conic_from, entries_of, outcome, attempt, step, admit_of, refusal_of, with_word, outcome_of, conic_outcome_of}
 use Rattle.calls.proofs.Opening.{word-opened, opened-need, opening_count, opening-size}
 use Rattle.calls.proofs.Admission.{Admitted, admitted_for, refused-is, done-is}
+use Rattle.calls.proofs.Refused.{never_zero}
 
 -- an element alone
 pub one-need : (b : Builder) (k : Element) → opened_need (is_empty b) 1 (size_of k) ≡ need_of (elements_of (opening (is_empty b) ++ plain k ∷ []))
@@ -96,6 +98,27 @@ ok_and (Err e) w h = absurd h
 pub no_word : (a : Result Builder BuildError) (r : Result Written BuildError) (vs : List ℕ) (fs : List Float) → MatchResult a (λ b. IsOkAnd r (λ w. w ≡ plainly_written b)) (λ e. r ≡ Err e) → conic_outcome_of r vs fs ≡ outcome_of a vs fs
 no_word (Ok b) r vs fs h = ap (λ (x : Result Written BuildError). conic_outcome_of x vs fs) (ok_and r (plainly_written b) h)
 no_word (Err e) r vs fs h = ap (λ (x : Result Written BuildError). conic_outcome_of x vs fs) h
+
+-- an element alone that has a joint word, as the only quad of a conic has
+marked_go : (a : Result Builder BuildError) (p q : Bool) (w n : ℕ) (s t : State) (vs : List ℕ) (fs : List Float) → outcome_of a vs fs ≡ cond p (outcome 1 0 s) (cond q (outcome 0 n t) (outcome 5 0 s))
+    → conic_outcome_of (with_word a w) vs fs ≡ cond p (outcome 1 0 s) (cond q (outcome 0 w t) (outcome 5 0 s))
+marked_go (Ok b) true q w n s t vs fs h = let z : ◌≡◌ {A = ℕ} 0 1 = ap (λ (o : Outcome). o.number) h in absurd (omega arith)
+marked_go (Ok b) false true w n s t vs fs h = ap (λ (o : Outcome). outcome 0 w o.state) h
+marked_go (Ok b) false false w n s t vs fs h = let z : ◌≡◌ {A = ℕ} 0 5 = ap (λ (o : Outcome). o.number) h in absurd (omega arith)
+marked_go (Err e) true q w n s t vs fs h = h
+marked_go (Err e) false true w n s t vs fs h = absurd (never_zero e vs fs n t h)
+marked_go (Err e) false false w n s t vs fs h = h
+
+pub one_marked : (s : State) (k : Element) (es : List Entry) (a : Result Builder BuildError) (r : Result Written BuildError) (w : ℕ) (vs : List ℕ) (fs : List Float) → elements_of es ≡ k ∷ [] → joint_word es ≡ w
+    → outcome_of a vs fs ≡ attempt s (opened s (plain k ∷ [])) → r ≡ with_word a w → conic_outcome_of r vs fs ≡ attempt s (opened s es)
+unfolding attempt elements_of
+one_marked s k es a r w vs fs e f h g =
+    let o = opening (is_empty s.builder) in
+    let same : elements_of (o ++ plain k ∷ []) ≡ elements_of (o ++ es) = elements_append o (plain k ∷ []) ∙ ap (λ (ks : List Element). elements_of o ++ ks) (sym e) ∙ sym (elements_append o es) in
+    let word : w ≡ joint_word (o ++ es) = sym (word-opened (is_empty s.builder) es ∙ f) in
+    ap (λ (x : Result Written BuildError). conic_outcome_of x vs fs) g
+    ∙ marked_go a (bad_state s) (room_for s (elements_of (o ++ plain k ∷ []))) w _ s _ vs fs h
+    ∙ ap₂ (λ (ks : List Element) (n : ℕ). cond (bad_state s) (outcome 1 0 s) (cond (room_for s ks) (outcome 0 n (push_all s ks)) (outcome 5 0 s))) same word
 
 -- what its step attempts, with the lowered conic that the code has
 pub conic-step : (s : State) (ctrl to : Point) (w : Float) (c : Conic) (l : Lowered) → c ≡ conic_from (is_empty s.builder) s.builder.pen ctrl to w → l ≡ lower_of c

@@ -13,7 +13,7 @@ use Rattle.calls.specs.declared.BuildError.TheVariants.{BadRecord, NoRoom}
 use Rattle.calls.specs.Calls.{Outcome, outcome, record_of, refusal_of, entries_of, attempt, step}
 
 -- 0 is no refusal's number
-never_zero : (e : BuildError) (vs : List ℕ) (fs : List Float) (w : ℕ) (s : State) → refusal_of e vs fs ≡ outcome 0 w s → ⊥
+pub never_zero : (e : BuildError) (vs : List ℕ) (fs : List Float) (w : ℕ) (s : State) → refusal_of e vs fs ≡ outcome 0 w s → ⊥
 never_zero (BadRecord b) vs fs w s h = let z : ◌≡◌ {A = ℕ} 1 0 = ap (λ (o : Outcome). o.number) h in omega arith
 never_zero (NoRoom b) vs fs w s h = let z : ◌≡◌ {A = ℕ} 5 0 = ap (λ (o : Outcome). o.number) h in omega arith
 

@@ -1,4 +1,4 @@
--- Two lengths compared without their roots: `far` and `near` are what the tests of `is_flat` say of `near_of`. Assumes nothing.
+-- Two lengths compared without their roots: `far` and `near` are what the tests of `near_by_squares` say of `near_of`. Assumes nothing.
 use mathlib.Core.Path.{◌≡◌, refl, sym, ap, ◌∙◌, subst}
 use mathlib.Core.Logic.{◌⊎◌, inl, inr}
 use Prim.Native.Nat.{ℕ, zero, suc, ◌+◌, ◌*◌, ◌^◌, ◌≤◌, ◌<◌, zero-le, suc-le-suc}
@@ -20,7 +20,7 @@ use Rattle.rounding.specs.Meaning.{fraction, root}
 use Rattle.rounding.proofs.Values.{split-le, fits_under, units_under}
 use Rattle.rounding.proofs.Meets.{meets}
 use Rattle.rounding.proofs.Relative.{Relative, sqrt_relative, scaled_relative}
-use Rattle.conic.specs.Conic.{thousandth, tiny, less, more, near_of}
+use Rattle.conic.specs.Conic.{thousandth, near_of}
 use Rattle.conic.proofs.Squares.{Unsigned}
 use Rattle.conic.proofs.Margins.{no_room, below_product, above_product, below_scaled, above_scaled, small_product, small_root}
 
@@ -41,9 +41,18 @@ length d = sqrt_of binary32 d
 abbrev part : Float → Float
 part c = mul binary32 thousandth (length c)
 
--- ---- 0.0, 1e-30, 1.000002e-6 and 9.99998e-7, and the values of these and of a thousandth
+-- ---- 0.0, 1e-30, 9.99998e-7 and 1.000002e-6, and the values of these and of a thousandth
 abbrev pub nought : Float
 nought = of_bits binary32 0
+
+abbrev pub tiny : Float
+tiny = of_bits binary32 0x0da2_4260
+
+abbrev pub less : Float
+less = of_bits binary32 0x3586_37ab
+
+abbrev pub more : Float
+more = of_bits binary32 0x3586_37cf
 
 tiny_value : HasValue tiny false 332307 (2 ^ 118)
 unfolding of_bits
@@ -69,7 +78,7 @@ or_l : (a b : Bool) → T a → T (a || b)
 or_l true b t = tt
 or_l false b t = absurd t
 
-lt-le : (x y : Float) → T (lt x y) → T (le x y)
+pub lt-le : (x y : Float) → T (lt x y) → T (le x y)
 unfolding le
 lt-le x y t = or_l (lt x y) (eq x y) t
 

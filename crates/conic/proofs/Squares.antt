@@ -1,8 +1,9 @@
--- A squared length has no minus sign. Assumes nothing.
+-- A squared length fits its format and has no minus sign. Assumes nothing.
 use Prim.Native.Nat.{ℕ}
 use mathlib.Core.Bool.{true, false, not}
 use lib.Dec.{T}
-use lib.Ieee.{Format, Float, nan, inf, fin, binary32, round, sum, add, mul}
+use lib.Ieee.{Format, Float, nan, inf, fin, binary32, round, sum, add, mul, fits}
+use lib.Ieee.Fits.{add-fits}
 use Rattle.ieee.proofs.Signs.{Up, up_round}
 use Rattle.geometry.specs.declared.Point.{Point}
 use Rattle.geometry.specs.Point.{length_squared_of}
@@ -46,3 +47,7 @@ add_unsigned f (fin false m e) (fin false n d) p q = round_unsigned f _ _
 pub squared_unsigned : (p : Point) → Unsigned (length_squared_of p)
 unfolding length_squared_of
 squared_unsigned p = add_unsigned binary32 (mul binary32 p.x p.x) (mul binary32 p.y p.y) (square_unsigned binary32 p.x) (square_unsigned binary32 p.y)
+
+pub squared_fits : (p : Point) → T (fits binary32 (length_squared_of p))
+unfolding length_squared_of
+squared_fits p = add-fits binary32 (mul binary32 p.x p.x) (mul binary32 p.y p.y)

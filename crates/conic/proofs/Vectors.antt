@@ -46,6 +46,16 @@ digit : (p : Bool) → cond p 1 0 ≤ 1
 digit true = omega arith
 digit false = omega arith
 
+-- exactly one of two tests holds
+abbrev pub OneOf : Bool → Bool → Type 0
+OneOf p q = cond p 1 0 + cond q 1 0 ≡ 1
+
+-- where the first test shows that n holds and the second that it does not, the first test is n
+pub first_tells : (p q n : Bool) → OneOf p q → (p ≡ true → n ≡ true) → (q ≡ true → n ≡ false) → p ≡ n
+first_tells true q n one f g = sym (f refl)
+first_tells false true n one f g = sym (g refl)
+first_tells false false n one f g = absurd (omega (arith, one))
+
 module _ (a b c d e f g h : Bool) where
   abbrev pub bits : ℕ
   bits = mask_l (map (top 31) (lane a b ∷ lane c d ∷ lane e f ∷ lane g h ∷ [])) % 2 ^ 64
@@ -62,6 +72,17 @@ module _ (a b c d e f g h : Bool) where
       let r = top 31 (lane e f) in
       let s = top 31 (lane g h) in
       second_of (top 31 (lane a b)) (top 31 (lane c d)) (mask_l (r ∷ s ∷ [])) (omega (arith, digit r, digit s)) ∙ both_set c d
+
+  -- where the first and the third lane are set once between them, and the second and the fourth too
+  pub one_each : bits % 4 + bits / 4 ≡ 3 → OneOf (cond b a false) (cond f e false) × OneOf (cond d c false) (cond h g false)
+  one_each sum =
+      let p = top 31 (lane a b) in
+      let q = top 31 (lane c d) in
+      let r = top 31 (lane e f) in
+      let s = top 31 (lane g h) in (
+        ap₂ (λ (x y : Bool). cond x 1 0 + cond y 1 0) (sym (both_set a b)) (sym (both_set e f)) ∙ omega (arith, sum, digit p, digit q, digit r, digit s),
+        ap₂ (λ (x y : Bool). cond x 1 0 + cond y 1 0) (sym (both_set c d)) (sym (both_set g h)) ∙ omega (arith, sum, digit p, digit q, digit r, digit s),
+      )
 
 -- where the left half's end is the right half's start
 pub meeting_lanes : (l r : List Float) → length l ≡ 4 → point_in l 2 ≡ point_in r 0 → l ≡ get_or l 0 nan ∷ get_or l 1 nan ∷ get_or r 0 nan ∷ get_or r 1 nan ∷ []

@@ -1,6 +1,6 @@
 -- One step of the Rust's push_conic: which conics are a line, when a conic is flat enough for one quad, and how it is halved.
 -- Each float operation of binary32 is rounded once, in the order of the Rust. Definitions only.
-use Rattle.std.specs.Prelude.{Bool, true, false, cond, not, ◌&&◌, ◌||◌, Float}
+use Rattle.std.specs.Prelude.{Bool, true, false, cond, not, ◌||◌, Float}
 use Rattle.std.specs.Float.{binary32}
 use Rattle.std.specs.Float.Ieee.{of_bits, add, sub, mul, div, lt, le}
 use Rattle.std.specs.Float.Ieee.Scale.{finite}
@@ -71,23 +71,6 @@ flat_of c =
     cond (near_one_of c.weight) true
     (let chord = length_of (sub_of c.to c.from) in
     cond (lt zero chord) (le (length_of (sub_of (conic_mid c) (quad_mid c))) (mul binary32 thousandth chord)) false)
-
--- the bounds within which the squared lengths decide: 1e-30, 9.99998e-7 and 1.000002e-6
-abbrev pub tiny : Float
-tiny = of_bits binary32 0x0da2_4260
-
-abbrev pub less : Float
-less = of_bits binary32 0x3586_37ab
-
-abbrev pub more : Float
-more = of_bits binary32 0x3586_37cf
-
--- by the squared lengths alone, of a weight that is not near 1: flat, and not flat; where neither holds, the roots decide
-unfoldable pub surely_near : Conic → Bool
-surely_near c = lt tiny (chord_of c) && le (distance_of c) (mul binary32 less (chord_of c))
-
-unfoldable pub surely_far : Conic → Bool
-surely_far c = lt tiny (chord_of c) && lt (mul binary32 more (chord_of c)) (distance_of c)
 
 -- the weight of both halves of a conic with this weight
 unfoldable pub half_weight_of : Float → Float

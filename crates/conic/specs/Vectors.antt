@@ -3,7 +3,7 @@ use Rattle.std.specs.Prelude.{List, [], ◌∷◌, ℕ, ◌+◌, get_or, Float}
 use Rattle.std.specs.Float.{nan}
 use Rattle.geometry.specs.declared.Point.{Point}
 use Rattle.conic.specs.declared.Conic.{Conic}
-use Rattle.conic.specs.Conic.{Halves}
+use Rattle.conic.specs.Conic.{Halves, distance_of, chord_of}
 
 -- the point whose coordinates stand at k and at k + 1
 abbrev pub point_in : List Float → ℕ → Point
@@ -23,3 +23,7 @@ halves_in left ctrls right u = record {
   left = conic_in left ctrls u;
   right = record { from = point_in right 0; ctrl = point_in ctrls 2; to = point_in right 2; weight = u };
 }
+
+-- how far the middles of each half are apart, and then how long each chord is, squared
+abbrev pub squares_of : Halves → List Float
+squares_of h = distance_of h.left ∷ distance_of h.right ∷ chord_of h.left ∷ chord_of h.right ∷ []

@@ -3,10 +3,10 @@
 
 #![tactic(auto)]
 
-ghost use Rattle.std.specs.Prelude.{◌≡◌, ℕ, ◌≤◌, length, map};
-ghost use Rattle.std.specs.Float.{binary32};
+ghost use Rattle.std.specs.Prelude.{◌≡◌, ℕ, ◌≤◌, ◌/◌, ◌%◌, eqb, length, map, get_or};
+ghost use Rattle.std.specs.Float.{binary32, nan};
 ghost use Rattle.ieee.specs.Sqrt.{sqrt_of};
-ghost use Rattle.conic.specs.Vectors.{point_in, pair, conic_in, halves_in};
+ghost use Rattle.conic.specs.Vectors.{point_in, pair, conic_in, halves_in, squares_of};
 ghost use Rattle.conic.specs.Conic.{is_line, lower_of, conic_mid, quad_mid, distance_of, chord_of, near_one_of, near_of, flat_of, half_weight_of, Halves, split_of};
 ghost use Rattle.conic.specs.Halving.{is_one_quad, halve, count_of};
 
@@ -47,15 +47,21 @@ pub enum Lowered {
 // How often a conic is halved at most.
 pub const MAX_DEPTH: usize = 6;
 
+// Bounds within which squared lengths decide: with a chord's square above TINY, a distance whose square is below LESS times that of
+// the chord is near, and one whose square is above MORE times it is not. In between, the roots round one way or the other.
+const TINY: f32 = 1e-30;
+
+const LESS: f32 = 9.99998e-7;
+
+const MORE: f32 = 1.000002e-6;
+
 // Whether a conic is one line: it has no curve, or no finite place for one.
 #[tactic(auto, unfolding(crate::specs::Conic::is_line))]
 fn is_line(c: Conic) -> bool
     ensures { result ≡ is_line c }
 {
-    if ieee::is_finite(c.weight) {
-        if c.weight <= 0.0 {
-            return true;
-        }
+    let w = c.weight;
+    if (0.0 < w) & (w < 1.0 / 0.0) {
         let places = [c.ctrl.x, c.ctrl.y, c.to.x, c.to.y];
         return !lanes::all_between(places, -1.0 / 0.0, 1.0 / 0.0);
     }
@@ -173,8 +179,49 @@ pub fn subdivide(ends: f32x4, ctrl: f32x4, w: f32) -> Subdivision
     }
 }
 
+// What bits 0 and 1 say, of the left half and the right.
+#[inline(always)]
+fn nearness_from_bits(bits: u64) -> Nearness
+    ensures { (result.left ≡ eqb (bits % 2) 1) × (result.right ≡ eqb (bits / 2 % 2) 1) }
+{
+    Nearness {
+        left: bits % 2 == 1,
+        right: (bits >> 1) % 2 == 1,
+    }
+}
+
+// Whether each half is near, by the lengths themselves: bit 0 says it of the left half, bit 1 of the right.
+#[inline(always)]
+fn near_by_roots(squares: f32x4) -> u64
+    ensures { (eqb (result % 2) 1 ≡ near_of (get_or squares 0 nan) (get_or squares 2 nan)) × (eqb (result / 2 % 2) 1 ≡ near_of (get_or squares 1 nan) (get_or squares 3 nan)) }
+{
+    let lengths = roots(squares);
+    let chords = lengths.swizzle([2, 3, 2, 3]);
+    let near = lengths.simd_le(f32x4::splat(0.001) * chords) & f32x4::splat(0.0).simd_lt(chords);
+    near.to_bitmask()
+}
+
+// Whether each half is near. Roots take long, and the squared lengths nearly always decide: the roots are taken only where they
+// leave one of the halves open. NaNs decide nothing.
+#[inline(always)]
+fn near_by_squares(squares: f32x4) -> Nearness
+    ensures { (h : Halves) → squares ≡ squares_of h → (result.left ≡ near_of (distance_of h.left) (chord_of h.left)) × (result.right ≡ near_of (distance_of h.right) (chord_of h.right)) }
+{
+    let chords = squares.swizzle([2, 3, 2, 3]);
+    let bounds = f32x4::from_array([LESS, LESS, MORE, MORE]) * chords;
+    let lesser = squares.shuffle(bounds, [0, 1, 6, 7]);
+    let greater = bounds.shuffle(squares, [0, 1, 4, 5]);
+    let tests = lesser.simd_lt(greater) & f32x4::splat(TINY).simd_lt(chords);
+    let bits = tests.to_bitmask();
+    // Bits 0 and 1 say near, bits 2 and 3 far, of the left half and the right: the sum is 3 where each half has one of both.
+    let decided = bits % 4 + (bits >> 2) == 3;
+    if decided {
+        return nearness_from_bits(bits);
+    }
+    nearness_from_bits(near_by_roots(squares))
+}
+
 // Whether the middles of each half and of its quad are near each other, measured by a chord above 0.
-#[tactic(auto, unfolding(crate::specs::Conic::near_of))]
 pub fn is_near(left: f32x4, ctrls: f32x4, right: f32x4, u: f32) -> Nearness
     requires { point_in left 2 ≡ point_in right 0 }
     ensures { (h : Halves) → h ≡ halves_in left ctrls right u → (result.left ≡ near_of (distance_of h.left) (chord_of h.left)) × (result.right ≡ near_of (distance_of h.right) (chord_of h.right)) }
@@ -186,15 +233,7 @@ pub fn is_near(left: f32x4, ctrls: f32x4, right: f32x4, u: f32) -> Nearness
     let chord = right - left;
     let d = apart * apart;
     let c = chord * chord;
-    let squares = d.shuffle(c, [0, 2, 4, 6]) + d.shuffle(c, [1, 3, 5, 7]);
-    let lengths = roots(squares);
-    let chords = lengths.swizzle([2, 3, 2, 3]);
-    let near = lengths.simd_le(f32x4::splat(0.001) * chords) & f32x4::splat(0.0).simd_lt(chords);
-    let bits = near.to_bitmask();
-    Nearness {
-        left: bits % 2 == 1,
-        right: (bits >> 1) % 2 == 1,
-    }
+    near_by_squares(d.shuffle(c, [0, 2, 4, 6]) + d.shuffle(c, [1, 3, 5, 7]))
 }
 
 // The second of two points, twice: the control of the right half, where a conic has its own.

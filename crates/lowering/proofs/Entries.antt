@@ -9,12 +9,13 @@ use Rattle.geometry.specs.declared.Point.{Point}
 use Rattle.conic.specs.declared.Conic.{Conic}
 use Rattle.conic.specs.declared.Lowered.{Lowered}
 use Rattle.conic.specs.declared.Lowered.TheVariants as lowered
-use Rattle.conic.specs.Conic.{is_line, lower_of}
+use Rattle.conic.specs.Conic.{is_line, lower_of, flat_of}
 use Rattle.conic.specs.Halving.{Piece, pieces_of, word_of}
 use Rattle.conic.specs.Spans.{last_target}
+use Rattle.conic.proofs.Halving.{halve_flat}
 use Rattle.conic.proofs.Whole.{whole-conic}
 use Rattle.stream.specs.declared.Element.{Element}
-use Rattle.stream.specs.declared.Element.TheVariants.{Line}
+use Rattle.stream.specs.declared.Element.TheVariants.{Line, Quad}
 use Rattle.stream.specs.Stream.{bytes_of, sizes_of, start_after, pen_after}
 use Rattle.lowering.specs.Entries.{Entry, piece, element_of, elements_of, quads_of, pieces_in, joint_word, lowered_of, LineOrQuads, one_line, quads}
 
@@ -81,6 +82,13 @@ lowered_curve l c e =
     let ps = pieces_of c in
     subst (λ (x : Lowered). LoweredTo x (quads_of ps) (length ps) (2 * length ps) (word_of ps)) (sym e)
     record { elements = refl; many = quads-length ps; size = quads-sizes ps; word = ap word_of (pieces_all ps) }
+
+pub lowered_flat : (l : Lowered) (c : Conic) → l ≡ lowered.Curve c → flat_of c ≡ true → LoweredTo l (Quad c.ctrl c.to ∷ []) 1 2 1
+unfolding elements_of word_of
+lowered_flat l c e f =
+    let h = lowered_curve l c e in
+    let q = halve_flat 6 c 0 f in
+    record { elements = h.elements ∙ ap quads_of q; many = h.many ∙ ap length q; size = h.size ∙ ap (λ (ps : List Piece). 2 * length ps) q; word = h.word ∙ ap word_of q }
 
 line_or_quads_go : (c : Conic) (t : Bool) → is_line c ≡ t → let es = lowered_of (cond t (lowered.Line c.to) (lowered.Curve c)) in LineOrQuads c es (joint_word es)
 unfolding lowered_of pieces_in word_of

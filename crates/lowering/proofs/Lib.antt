@@ -1,4 +1,3 @@
--- Laws of entries, of writing the pieces of a conic, and of weights remembered by depth.
+-- Laws of entries, and of writing the pieces of a conic.
 pub mod Entries
 mod Writing
-pub mod Memo

@@ -1,24 +1,25 @@
 -- What the code that writes a conic has where it writes one quad, and where it writes both halves.
 use mathlib.Core.Path.{◌≡◌, refl, sym, ap, ap₂, subst, ◌∙◌}
 use mathlib.Core.List.{List, [], ◌∷◌, ◌++◌, append_assoc}
-use mathlib.Core.Bool.{Bool, true, false, ◌&&◌, true≢false}
+use mathlib.Core.Bool.{Bool, true, false, ◌&&◌, ◌||◌, true≢false}
 use Prim.Native.Nat.{ℕ, zero, suc, ◌+◌, ◌-◌, ◌*◌, ◌%◌, ◌^◌, ◌≤◌, ◌<◌}
 use native.Mathlib.Nat.{one-mul}
 use native.Mathlib.Omega.{arith}
 use lib.ListN.{length, take, drop, set, replicate, length-append}
 use lib.Seq.{sets-eq}
-use lib.Pow.{shl_exact}
-use lib.Dec.{lit<}
+use lib.Pow.{shl_exact, pow_pos}
+use lib.Dec.{lit<, eqb}
 use lib.Ieee.{Float}
 use Rattle.geometry.specs.declared.Point.{Point}
 use Rattle.conic.specs.declared.Conic.{Conic}
-use Rattle.conic.specs.Conic.{Halves, split_of}
+use Rattle.conic.specs.Conic.{Halves, split_of, half_weight_of, near_one_of, near_of, distance_of, chord_of}
 use Rattle.conic.specs.declared.Lowered.{Lowered}
 use Rattle.conic.specs.declared.Lowered.TheVariants as lowered
-use Rattle.conic.specs.Vectors.{pair, conic_in}
+use Rattle.conic.specs.Vectors.{pair, point_in, conic_in, halves_in}
 use Rattle.conic.specs.Halving.{Piece, piece_of, is_one_quad, halve, pieces_of, count_of, word_of}
-use Rattle.conic.proofs.Halving.{halve_two, split_some, half-span, word_append}
-use Rattle.conic.proofs.Vectors.{of_pairs}
+use Rattle.conic.proofs.Halving.{halve_one, halve_two, split_some, half-span, word_append}
+use Rattle.conic.proofs.Flat.{quad_is}
+use Rattle.conic.proofs.Vectors.{of_pairs, halves_with, halves_are, halves_split}
 use Rattle.conic.proofs.Whole.{halve-ends}
 use Rattle.stream.specs.declared.Builder.{Builder}
 use Rattle.stream.specs.declared.Element.TheVariants.{Quad}
@@ -30,7 +31,6 @@ use Rattle.stream.proofs.Put.{put_one, put-after, length-put}
 use Rattle.stream.proofs.Pushed.{push_all-verbs, push-all_points, push_all-start, push_all-pen}
 use Rattle.stream.proofs.Past.{push_all_puts}
 use Rattle.stream.proofs.Lists.{floats_append, length_all}
-use Rattle.lowering.specs.declared.Marks.{Marks}
 use Rattle.lowering.specs.Entries.{elements_of, quads_of, lowered_of, builder_at}
 use Rattle.lowering.specs.Quads.{Lowers}
 use Rattle.lowering.proofs.Entries.{lowered_curve, quads_append, quads-length, quads-sizes, quads-bytes, quads-start, quads-pen}
@@ -86,15 +86,19 @@ run_put l v n x = let e = length-replicate n x in paste_all l v (replicate n x) 
 
 -- ---- one quad
 
+-- the bit where a quad starts, as the code makes it
+pub bit : (k : ℕ) → k < 64 → (1 * 2 ^ k) % 2 ^ 64 ≡ 2 ^ k
+bit k h = shl_exact 1 k 64 (lit< tt) (omega arith) ∙ one-mul (2 ^ k)
+
 pub record OneQuad (ps : List Piece) (c : Conic) (start : ℕ) : Type 0 where
   pub many : length ps ≡ 1
   pub quads : quads_of ps ≡ Quad c.ctrl c.to ∷ []
   pub floats : all_floats (quads_of ps) ≡ c.ctrl.x ∷ c.ctrl.y ∷ c.to.x ∷ c.to.y ∷ []
-  pub word : word_of ps ≡ 2 ^ start
+  pub word : word_of ps ≡ (1 * 2 ^ start) % 2 ^ 64
 
-pub one-quad : (ps : List Piece) (c : Conic) (start size : ℕ) → ps ≡ piece_of c start size ∷ [] → OneQuad ps c start
+pub one-quad : (ps : List Piece) (c : Conic) (start size : ℕ) → start < 64 → ps ≡ piece_of c start size ∷ [] → OneQuad ps c start
 unfolding elements_of word_of all_floats
-one-quad ps c start size e = record { many = ap length e; quads = ap quads_of e; floats = ap (λ (qs : List Piece). all_floats (quads_of qs)) e; word = ap word_of e ∙ omega arith }
+one-quad ps c start size h e = record { many = ap length e; quads = ap quads_of e; floats = ap (λ (qs : List Piece). all_floats (quads_of qs)) e; word = ap word_of e ∙ omega (arith, bit start h) }
 
 -- what pieces leave that were written from point `at` on: the points, the next point and the word
 pub record Wrote (ps : List Piece) (fs gs : List Float) (at next word after : ℕ) : Type 0 where
@@ -102,13 +106,9 @@ pub record Wrote (ps : List Piece) (fs gs : List Float) (at next word after : �
   pub end : next ≡ at + 2 * length ps
   pub bits : after ≡ word + word_of ps
 
-pub one-wrote : (ps : List Piece) (c : Conic) (start : ℕ) {fs gs : List Float} {at next word after : ℕ} → OneQuad ps c start → gs ≡ put fs (2 * at) (c.ctrl.x ∷ c.ctrl.y ∷ c.to.x ∷ c.to.y ∷ []) → next ≡ at + 2
-    → after ≡ word + 2 ^ start → Wrote ps fs gs at next word after
-one-wrote ps c start {fs} {gs} {at} h e n w = let m = h.many in let b = h.word in record { points = e ∙ ap (put fs (2 * at)) (sym h.floats); end = omega arith; bits = omega arith }
-
--- the bit where it starts, as the code makes it
-pub bit : (k : ℕ) → k < 64 → (1 * 2 ^ k) % 2 ^ 64 ≡ 2 ^ k
-bit k h = shl_exact 1 k 64 (lit< tt) (omega arith) ∙ one-mul (2 ^ k)
+pub one-wrote : (ps : List Piece) (c : Conic) (start at word : ℕ) {fs gs : List Float} → OneQuad ps c start → gs ≡ put fs (2 * at) (c.ctrl.x ∷ c.ctrl.y ∷ c.to.x ∷ c.to.y ∷ [])
+    → Wrote ps fs gs at (at + 2) word (word + (1 * 2 ^ start) % 2 ^ 64)
+one-wrote ps c start at word {fs} h e = let m = h.many in let b = h.word in record { points = e ∙ ap (put fs (2 * at)) (sym h.floats); end = omega arith; bits = omega arith }
 
 -- a quad is written in the same way wherever start and pen are
 pub quad_anywhere : (v p : ℕ) (f q ctrl to : Point) (vs : List ℕ) (fs : List Float) {r : Builder} {ws : List ℕ} {gs : List Float} → state r ws gs ≡ push (state (builder_at v p f q) vs fs) (Quad ctrl to)
@@ -172,6 +172,47 @@ both-wrote ps l r {fs} {us} {gs} {at} {mid} h b x y =
       bits = omega (arith, x.bits, y.bits);
     }
 
+-- a conic that is split, and both halves are one quad: how many that is, and the bits where they start
+pub record TwoQuads (ps l r : List Piece) (h : Halves) (start next : ℕ) : Type 0 where
+  pub both : BothHalves ps l r
+  pub left : OneQuad l h.left start
+  pub right : OneQuad r h.right next
+  pub many : length ps ≡ 2
+  pub word : word_of ps ≡ (1 * 2 ^ start) % 2 ^ 64 + (1 * 2 ^ next) % 2 ^ 64
+  pub below : next < 64
+
+-- from what the code is told of the halves: that b is the right one's control, whether their weight u is near 1, and which of them are near
+pub two-quads : (n : ℕ) (c : Conic) (l k r b : List Float) (u : Float) (start : ℕ) {o x y : Bool} → n ≤ 6 → start + 2 ^ n ≤ 64 → is_one_quad n c ≡ false
+    → halves_in l k r (half_weight_of c.weight) ≡ split_of c → u ≡ half_weight_of c.weight → b ≡ pair (point_in k 2) (point_in k 2) → o ≡ near_one_of u
+    → ((h : Halves) → h ≡ halves_in l k r u → (x ≡ near_of (distance_of h.left) (chord_of h.left)) × (y ≡ near_of (distance_of h.right) (chord_of h.right)))
+    → (((eqb (n - 1) 0 || o) || x) && ((eqb (n - 1) 0 || o) || y)) ≡ true
+    → let h = halves_with l k r b u in let next = start + (1 * 2 ^ (n - 1)) % 2 ^ 64 in TwoQuads (halve n c start) (halve (n - 1) h.left start) (halve (n - 1) h.right next) h start next
+two-quads n c l k r b u start {o} {x} {y} six fits f e w t z near both =
+    let h = halves_with l k r b u in
+    let s = split n c h start six f (halves_split c l k r b u e w t) in
+    let d = n - 1 in
+    let next = start + (1 * 2 ^ d) % 2 ^ 64 in
+    let is = near h (halves_are l k r b u t) in
+    let each = each_true ((eqb d 0 || o) || x) ((eqb d 0 || o) || y) both in
+    let below : next < 64 = omega (arith, fits, s.whole, pow_pos d) in
+    let p = one-quad _ h.left start _ (omega (arith, fits, pow_pos n)) (halve_one d h.left start (sym (quad_is d h.left z is.0) ∙ each.0)) in
+    let q = one-quad _ h.right next _ below (halve_one d h.right next (sym (quad_is d h.right z is.1) ∙ each.1)) in
+    record {
+      both = s.both;
+      left = p;
+      right = q;
+      many = omega (arith, s.both.many, p.many, q.many);
+      word = omega (arith, s.both.word, p.word, q.word);
+      below = below;
+    }
+
+pub two-wrote : (ps l r : List Piece) (h : Halves) (start next at word : ℕ) {fs us gs : List Float} → 2 * at ≤ length fs → TwoQuads ps l r h start next
+    → us ≡ put fs (2 * at) (h.left.ctrl.x ∷ h.left.ctrl.y ∷ h.left.to.x ∷ h.left.to.y ∷ [])
+    → gs ≡ put us (2 * (at + 2)) (h.right.ctrl.x ∷ h.right.ctrl.y ∷ h.right.to.x ∷ h.right.to.y ∷ [])
+    → Wrote ps fs gs at (at + 2 + 2) word (word + (1 * 2 ^ start) % 2 ^ 64 + (1 * 2 ^ next) % 2 ^ 64)
+two-wrote ps l r h start next at word room q x y =
+    both-wrote ps l r room q.both (one-wrote l h.left start at word q.left x) (one-wrote r h.right next (at + 2) (word + (1 * 2 ^ start) % 2 ^ 64) q.right y)
+
 -- ---- a whole conic
 
 pub count_is : (c : Conic) → count_of c ≡ length (pieces_of c)
@@ -186,8 +227,8 @@ module _ {l : Lowered} {k : Conic} {e t : List Float} (is : l ≡ lowered.Curve 
       let n = ap count_of (of_pairs k e t p q) ∙ count_is k in
       (omega (arith, s.0, h.many, n), omega (arith, s.1, h.size, n))
 
-  pub curve_lowers : (r : Marks) (v at : ℕ) (vs ws : List ℕ) (fs gs : List Float) → Lowers r v at (conic_in e t k.weight) vs fs ws gs → Lowers r v at k vs fs ws gs
-  curve_lowers r v at vs ws fs gs = subst (λ (c : Conic). Lowers r v at c vs fs ws gs) (of_pairs k e t p q)
+  pub curve_lowers : (n v at : ℕ) (vs ws : List ℕ) (fs gs : List Float) → Lowers n v at (conic_in e t k.weight) vs fs ws gs → Lowers n v at k vs fs ws gs
+  curve_lowers n v at vs ws fs gs = subst (λ (c : Conic). Lowers n v at c vs fs ws gs) (of_pairs k e t p q)
 
 -- bytes and points in place are the quads pushed, wherever start and pen are
 pub whole-pushed : (v p n : ℕ) (c : Conic) (vs ws : List ℕ) (fs gs : List Float) → v + length (pieces_of c) ≤ length vs → 2 * (p + 2 * length (pieces_of c)) ≤ length fs → n ≡ length (pieces_of c)

@@ -8,7 +8,7 @@ ghost use Rattle.conic.specs.Conic.{flat_of};
 ghost use Rattle.conic.specs.Vectors.{point_in, conic_in};
 ghost use Rattle.conic.specs.Halving.{is_one_quad, halve, word_of, pieces_of, count_of};
 ghost use Rattle.stream.specs.Stream.{put, all_floats, state, push, push_all, Fits};
-ghost use Rattle.lowering.specs.Entries.{elements_of, quads_of, lowered_of, joint_word, plainly_written, builder_at};
+ghost use Rattle.lowering.specs.Entries.{elements_of, quads_of, lowered_of, plainly_written, builder_at};
 ghost use Rattle.lowering.specs.Quads.{HasRoom, Lowers};
 
 use conic::{Conic, Lowered, MAX_DEPTH};
@@ -39,18 +39,17 @@ struct Marks {
     word: u64,
 }
 
+// The point behind the quads written, and the bits where quads start.
+#[derive(Drop)]
+struct Progress {
+    at: usize,
+    word: u64,
+}
+
 // A conic's only quad, as verb v and with its points from p on.
-fn push_piece(
-    v: usize,
-    p: usize,
-    verbs: &mut [u8],
-    points: &mut [f32],
-    ctrl: Point,
-    to: Point,
-) -> Marks
+fn push_piece(v: usize, p: usize, verbs: &mut [u8], points: &mut [f32], ctrl: Point, to: Point)
     requires { (v < length verbs.old) × (2 * (p + 2) ≤ length points.old) }
-    ensures points_after { (from pen : Point) → state (builder_at (v + result.count) (p + 2 * result.count) from to) verbs.new points.new ≡ push (state (builder_at v p from pen) verbs.old points.old) (Element.Quad ctrl to) }
-    ensures count_value { (result.count ≡ 1) × (result.word ≡ 1) }
+    ensures { (from pen : Point) → state (builder_at (v + 1) (p + 2) from to) verbs.new points.new ≡ push (state (builder_at v p from pen) verbs.old points.old) (Element.Quad ctrl to) }
 {
     let b = Builder {
         verbs: v,
@@ -59,54 +58,45 @@ fn push_piece(
         pen: ctrl,
     };
     stream::push(b, verbs, points, Element::Quad(ctrl, to));
-    Marks { count: 1, word: 1 }
 }
 
-// The points of a quad with the first point of `ctrl` and to the second one of `ends`, from point `at` on, and the bit
-// where it starts.
-fn put_quad(
-    points: &mut [f32],
-    at: &mut usize,
-    word: &mut u64,
-    ctrl: f32x4,
-    ends: f32x4,
-    start: usize,
-)
-    requires { (start < 64) × (2 * (at.old + 2) ≤ length points.old) × (word.old + 2 ^ start < 2 ^ 64) }
-    ensures points_after { points.new ≡ put points.old (2 * at.old) ((point_in ctrl 0).x ∷ (point_in ctrl 0).y ∷ (point_in ends 2).x ∷ (point_in ends 2).y ∷ []) }
-    ensures at_after { (at.new ≡ at.old + 2) × (word.new ≡ word.old + 2 ^ start) }
+// The points of a quad with the first point of `ctrl` and to the second one of `ends`, from point `at` on.
+#[inline(always)]
+fn put_quad(points: &mut [f32], at: usize, ctrl: f32x4, ends: f32x4)
+    requires { 2 * (at + 2) ≤ length points.old }
+    ensures { points.new ≡ put points.old (2 * at) ((point_in ctrl 0).x ∷ (point_in ctrl 0).y ∷ (point_in ends 2).x ∷ (point_in ends 2).y ∷ []) }
 {
-    let i = 2 * *at;
+    let i = 2 * at;
     let [x1, y1, x2, y2] = ctrl.shuffle(ends, [0, 1, 6, 7]).to_array();
     points[i] = x1;
     points[i + 1] = y1;
     points[i + 2] = x2;
     points[i + 3] = y2;
-    *at = *at + 2;
-    *word = *word + (1 << start);
 }
 
 // The quads of a conic, their points from point `at` on, and the bits where they start; `one` tells whether it is one.
 // Halving calls itself, twice for each split, with the depth still allowed falling from 6. Most often both halves are
 // one quad each: then neither call is made. The conic runs from and to the points in `ends`; `ctrl` begins with its control.
+// The place and the word come and go by value, and so stay in registers.
 fn push_conic(
     points: &mut [f32],
-    at: &mut usize,
-    word: &mut u64,
+    at: usize,
+    word: u64,
     ends: f32x4,
     ctrl: f32x4,
     w: f32,
     depth: usize,
     start: usize,
     one: bool,
-)
-    requires { (one ≡ is_one_quad depth (conic_in ends ctrl w)) × (depth ≤ 6) × (start + 2 ^ depth ≤ 64) × HasRoom (halve depth (conic_in ends ctrl w) start) points.old at.old word.old }
-    ensures points_after { points.new ≡ put points.old (2 * at.old) (all_floats (quads_of (halve depth (conic_in ends ctrl w) start))) }
-    ensures at_after { (at.new ≡ at.old + 2 * length (halve depth (conic_in ends ctrl w) start)) × (word.new ≡ word.old + word_of (halve depth (conic_in ends ctrl w) start)) }
+) -> Progress
+    requires { (one ≡ is_one_quad depth (conic_in ends ctrl w)) × (depth ≤ 6) × (start + 2 ^ depth ≤ 64) × HasRoom (halve depth (conic_in ends ctrl w) start) points.old at word }
+    ensures points_after { points.new ≡ put points.old (2 * at) (all_floats (quads_of (halve depth (conic_in ends ctrl w) start))) }
+    ensures at_after { (result.at ≡ at + 2 * length (halve depth (conic_in ends ctrl w) start)) × (result.word ≡ word + word_of (halve depth (conic_in ends ctrl w) start)) }
 {
     if one {
-        put_quad(points, at, word, ctrl, ends, start);
-        return;
+        put_quad(points, at, ctrl, ends);
+        let word = word + (1 << start);
+        return Progress { at: at + 2, word };
     }
     let d = depth - 1;
     let h = conic::subdivide(ends, ctrl, w);
@@ -118,12 +108,13 @@ fn push_conic(
     let r = last | near.right;
     let next = start + (1 << d);
     if l & r {
-        put_quad(points, at, word, h.ctrls, h.left, start);
-        put_quad(points, at, word, right_ctrl, h.right, next);
-        return;
+        put_quad(points, at, h.ctrls, h.left);
+        put_quad(points, at + 2, right_ctrl, h.right);
+        let word = word + (1 << start) + (1 << next);
+        return Progress { at: at + 4, word };
     }
-    push_conic(points, at, word, h.left, h.ctrls, u, d, start, l);
-    push_conic(points, at, word, h.right, right_ctrl, u, d, next, r);
+    let mid = push_conic(points, at, word, h.left, h.ctrls, u, d, start, l);
+    push_conic(points, mid.at, mid.word, h.right, right_ctrl, u, d, next, r)
 }
 
 // Four quads as verbs from v on.
@@ -185,7 +176,9 @@ fn fill_quads(verbs: &mut [u8], v: usize, n: usize)
     fill_many(verbs, v, n);
 }
 
-// The quads of a conic that is more than one, as verbs from v on and points from p on.
+// The quads of a conic that is more than one, as verbs from v on and points from p on. Compiled in place in both of its
+// callers, each of which is compiled apart.
+#[inline(always)]
 fn push_curve(
     v: usize,
     p: usize,
@@ -196,21 +189,22 @@ fn push_curve(
     w: f32,
 ) -> Marks
     requires { (flat_of (conic_in ends ctrl w) ≡ false) × (v + count_of (conic_in ends ctrl w) ≤ length verbs.old) × (2 * (p + 2 * count_of (conic_in ends ctrl w)) ≤ length points.old) }
-    ensures { Lowers result v p (conic_in ends ctrl w) verbs.old points.old verbs.new points.new }
+    ensures quads_after { Lowers result.count v p (conic_in ends ctrl w) verbs.old points.old verbs.new points.new }
+    ensures word_value { result.word ≡ word_of (pieces_of (conic_in ends ctrl w)) }
 {
-    let mut at = p;
-    let mut word = 0;
-    push_conic(
-        points, &mut at, &mut word, ends, ctrl, w, MAX_DEPTH, 0, false,
-    );
-    let count = (at - p) / 2;
+    let end = push_conic(points, p, 0, ends, ctrl, w, MAX_DEPTH, 0, false);
+    let count = (end.at - p) / 2;
     fill_quads(verbs, v, count);
-    Marks { count, word }
+    Marks {
+        count,
+        word: end.word,
+    }
 }
 
-// The quads of a conic as verbs from v on and points from p on, for which there is room. Neither start nor pen of a record
-// has a part in it. What comes and goes are vectors and numbers, which stay in registers: a record of floats would be
-// stored one by one and read two by two, for which a processor waits.
+// The quads of a conic as verbs from v on and points from p on, for which there is room, and how many they are. Compiled
+// apart. Neither start nor pen of a record has a part in it. What comes and goes are vectors and numbers, which stay in
+// registers: a record of floats would be stored one by one and read two by two, for which a processor waits.
+#[inline(never)]
 fn push_quads(
     v: usize,
     p: usize,
@@ -219,15 +213,16 @@ fn push_quads(
     ends: f32x4,
     ctrl: f32x4,
     w: f32,
-) -> Marks
+) -> usize
     requires { (v + count_of (conic_in ends ctrl w) ≤ length verbs.old) × (2 * (p + 2 * count_of (conic_in ends ctrl w)) ≤ length points.old) }
     ensures { Lowers result v p (conic_in ends ctrl w) verbs.old points.old verbs.new points.new }
 {
     let c = conic::of_vectors(ends, ctrl, w);
     if conic::is_flat(c) {
-        return push_piece(v, p, verbs, points, c.ctrl, c.to);
+        push_piece(v, p, verbs, points, c.ctrl, c.to);
+        return 1;
     }
-    push_curve(v, p, verbs, points, ends, ctrl, w)
+    push_curve(v, p, verbs, points, ends, ctrl, w).count
 }
 
 // The record behind so many quads, the last of which ends at `to`.
@@ -244,40 +239,29 @@ fn after_quads(b: Builder, count: usize, to: Point) -> Builder
     }
 }
 
-// What a conic is lowered to, behind the held elements, for which there is room.
-pub fn push_lowered(b: Builder, verbs: &mut [u8], points: &mut [f32], l: Lowered) -> Written
-    requires { Fits b verbs.old points.old (elements_of (lowered_of l)) }
-    ensures points_after { state result.builder verbs.new points.new ≡ push_all (state b verbs.old points.old) (elements_of (lowered_of l)) }
-    ensures word_value { result.word ≡ joint_word (lowered_of l) }
+// The quads of a conic that is more than one, behind the held elements, for which there is room, with their joint word.
+// The conic comes as numbers and vectors for the same reason.
+pub fn push_split(
+    b: Builder,
+    verbs: &mut [u8],
+    points: &mut [f32],
+    ends: f32x4,
+    ctrl: f32x4,
+    w: f32,
+) -> Written
+    requires { (flat_of (conic_in ends ctrl w) ≡ false) × Fits b verbs.old points.old (quads_of (pieces_of (conic_in ends ctrl w))) }
+    ensures points_after { state result.builder verbs.new points.new ≡ push_all (state b verbs.old points.old) (quads_of (pieces_of (conic_in ends ctrl w))) }
+    ensures word_value { result.word ≡ word_of (pieces_of (conic_in ends ctrl w)) }
 {
-    match l {
-        Lowered::Line(p) => {
-            let b2 = stream::push(b, verbs, points, Element::Line(p));
-            Written {
-                builder: b2,
-                word: 0,
-            }
-        }
-        Lowered::Curve(c) => {
-            let m = push_quads(
-                b.verbs,
-                b.points,
-                verbs,
-                points,
-                conic::ends(c),
-                conic::ctrl(c),
-                c.weight,
-            );
-            Written {
-                builder: after_quads(b, m.count, c.to),
-                word: m.word,
-            }
-        }
+    let m = push_curve(b.verbs, b.points, verbs, points, ends, ctrl, w);
+    let c = conic::of_vectors(ends, ctrl, w);
+    Written {
+        builder: after_quads(b, m.count, c.to),
+        word: m.word,
     }
 }
 
-// The same where nobody asks for the joint word. It does not call `push_lowered`: `push_quads`, which has two callers, is
-// then compiled apart, and both of these in place.
+// What a conic is lowered to, behind the held elements, for which there is room, where nobody asks for the joint word.
 pub fn push_unmarked(b: Builder, verbs: &mut [u8], points: &mut [f32], l: Lowered) -> Builder
     requires { Fits b verbs.old points.old (elements_of (lowered_of l)) }
     ensures { state result verbs.new points.new ≡ push_all (state b verbs.old points.old) (elements_of (lowered_of l)) }
@@ -285,7 +269,7 @@ pub fn push_unmarked(b: Builder, verbs: &mut [u8], points: &mut [f32], l: Lowere
     match l {
         Lowered::Line(p) => stream::push(b, verbs, points, Element::Line(p)),
         Lowered::Curve(c) => {
-            let m = push_quads(
+            let count = push_quads(
                 b.verbs,
                 b.points,
                 verbs,
@@ -294,7 +278,7 @@ pub fn push_unmarked(b: Builder, verbs: &mut [u8], points: &mut [f32], l: Lowere
                 conic::ctrl(c),
                 c.weight,
             );
-            after_quads(b, m.count, c.to)
+            after_quads(b, count, c.to)
         }
     }
 }

@@ -1,38 +1,36 @@
-use Rattle.calls.proofs.Opened.{opened-refused, opened-admitted, opened-room, opened-counts, opened-done, conic-step}
-use Rattle.calls.proofs.Admission.{conic_passed_on}
-use Rattle.std.proofs.Common.{rules}
+use mathlib.Core.Path.{sym, ap, ◌∙◌}
+use mathlib.Core.List.{◌++◌}
+use Rattle.conic.specs.declared.Lowered.{Lowered}
+use Rattle.conic.specs.declared.Lowered.TheVariants as lowered
+use Rattle.conic.proofs.Vectors.{of_pairs}
+use Rattle.stream.specs.declared.Element.TheVariants.{Line, Quad}
+use Rattle.stream.specs.Stream.{State, state, is_empty}
 use Rattle.lowering.specs.Entries.{lowered_of}
-use Rattle.stream.specs.Stream.{State, state}
-use native.Mathlib.Omega.{arith}
-use mathlib.Core.Path.{refl, sym, ◌∙◌}
+use Rattle.lowering.proofs.Entries.{lowered_line, lowered_flat}
+use Rattle.calls.specs.Calls.{opening, attempt}
+use Rattle.calls.proofs.Opened.{one_marked, conic-step}
 use Rattle.builder.proofs.conic_to.Goals as goal
 
-pub returns-in_err-admit_lowered : goal.returns-in_err-admit_lowered
-returns-in_err-admit_lowered c =
+pub returns-in-Line : goal.returns-in-Line
+returns-in-Line c =
     let a = c.args in
     let s : State = state a.b a.verbs.now a.points.now in
-    conic_passed_on _ _ _ _ (search rules) ∙ opened-refused s (lowered_of c.lower-l.result) _ _ refl (sym (c.in_err-admit_lowered.was) ∙ c.admit_lowered.ensures)
-    ∙ conic-step s a.ctrl a.to a.weight _ _ c.conic_from.ensures c.lower-l.ensures
+    let h = lowered_line c.lower.result _ c.in-Line.is in
+    one_marked s (Line c.in-Line.p) (lowered_of c.lower.result) _ _ _ _ _ h.elements h.word c.add.ensures c.with_word.ensures ∙ conic-step s a.ctrl a.to a.weight _ _ c.conic_from.ensures c.lower.ensures
 
-pub ensure_started-o-requires : goal.ensure_started-o-requires
-ensure_started-o-requires c =
+pub returns-then-is_flat : goal.returns-then-is_flat
+returns-then-is_flat c =
     let a = c.args in
     let s : State = state a.b a.verbs.now a.points.now in
-    let h = opened-admitted s (lowered_of c.lower-l.result) _ _ _ refl c.admit_lowered.ensures c.in_ok-admit_lowered.was in
-    omega (arith, opened-room s (lowered_of c.lower-l.result) h)
+    let k = c.in-Curve.c in
+    let h = lowered_flat c.lower.result k c.in-Curve.is (sym c.is_flat.ensures ∙ c.if-is_flat.true) in
+    one_marked s (Quad k.ctrl k.to) (lowered_of c.lower.result) _ _ _ _ _ h.elements h.word c.add-then-is_flat.ensures c.with_word-then-is_flat.ensures
+    ∙ conic-step s a.ctrl a.to a.weight _ _ c.conic_from.ensures c.lower.ensures
 
-pub push_lowered-requires : goal.push_lowered-requires
-push_lowered-requires c =
+pub returns-else-is_flat : goal.returns-else-is_flat
+returns-else-is_flat c =
     let a = c.args in
     let s : State = state a.b a.verbs.now a.points.now in
-    let h = opened-admitted s (lowered_of c.lower-l.result) _ _ _ refl c.admit_lowered.ensures c.in_ok-admit_lowered.was in
-    let n = opened-counts s _ c.ensure_started-o.ensures in
-    omega (arith, opened-room s (lowered_of c.lower-l.result) h, n.verbs, n.points, c.ensure_started-o.auto)
-
-pub returns : goal.returns
-returns c =
-    let a = c.args in
-    let s : State = state a.b a.verbs.now a.points.now in
-    let h = opened-admitted s (lowered_of c.lower-l.result) _ _ _ refl c.admit_lowered.ensures c.in_ok-admit_lowered.was in
-    opened-done s (lowered_of c.lower-l.result) _ _ _ h c.ensure_started-o.ensures c.push_lowered.ensures.points_after c.push_lowered.ensures.word_value
-    ∙ conic-step s a.ctrl a.to a.weight _ _ c.conic_from.ensures c.lower-l.ensures
+    let k = c.in-Curve.c in
+    let e = ap lowered.Curve (of_pairs k _ _ c.ends-ends.ensures c.ctrl.ensures) ∙ sym c.in-Curve.is in
+    c.split_to.ensures ∙ ap (λ (l : Lowered). attempt s (opening (is_empty a.b) ++ lowered_of l)) e ∙ conic-step s a.ctrl a.to a.weight _ _ c.conic_from.ensures c.lower.ensures

@@ -1,5 +1,6 @@
 use mathlib.Core.Path.{sym, ap, subst, ◌∙◌}
 use native.Mathlib.Omega.{arith}
+use lib.Dec.{lit<}
 use Rattle.geometry.specs.declared.Point.{Point}
 use Rattle.conic.specs.declared.Conic.{Conic}
 use Rattle.conic.specs.Conic.{flat_of}
@@ -17,7 +18,7 @@ push_piece-requires c =
     let s = c.requires in
     let k = c.of_vectors-c.result in
     let e = ap count_of c.of_vectors-c.ensures in
-    let h = one-quad (pieces_of k) k 0 _ (halve_flat 6 k 0 (sym c.is_flat.ensures ∙ c.if-is_flat.true)) in
+    let h = one-quad (pieces_of k) k 0 _ (lit< tt) (halve_flat 6 k 0 (sym c.is_flat.ensures ∙ c.if-is_flat.true)) in
     (omega (arith, s.0, e, count_is k, h.many), omega (arith, s.1, e, count_is k, h.many))
 
 pub push_curve-requires : goal.push_curve-requires
@@ -27,9 +28,7 @@ pub returns-then-is_flat : goal.returns-then-is_flat
 returns-then-is_flat c =
     let a = c.args in
     let k = c.of_vectors-c.result in
-    let h = one-quad (pieces_of k) k 0 _ (halve_flat 6 k 0 (sym c.is_flat.ensures ∙ c.if-is_flat.true)) in
-    let e = c.push_piece.ensures in
+    let h = one-quad (pieces_of k) k 0 _ (lit< tt) (halve_flat 6 k 0 (sym c.is_flat.ensures ∙ c.if-is_flat.true)) in
     let s : Point → Point → State = λ from pen. state (builder_at a.v a.p from pen) a.verbs.now a.points.now in
-    let r : Lowers c.push_piece.result a.v a.p k a.verbs.now a.points.now c.push_piece.new.verbs c.push_piece.new.points =
-    (λ from pen. e.points_after from pen ∙ sym (ap (push_all (s from pen)) h.quads ∙ push_all-one (s from pen) _), e.count_value.0 ∙ sym h.many, e.count_value.1 ∙ sym h.word) in
-    subst (λ (k : Conic). Lowers c.push_piece.result a.v a.p k a.verbs.now a.points.now c.push_piece.new.verbs c.push_piece.new.points) c.of_vectors-c.ensures r
+    let r : Lowers 1 a.v a.p k a.verbs.now a.points.now c.push_piece.new.verbs c.push_piece.new.points = (λ from pen. c.push_piece.ensures from pen ∙ sym (ap (push_all (s from pen)) h.quads ∙ push_all-one (s from pen) _), sym h.many) in
+    subst (λ (k : Conic). Lowers 1 a.v a.p k a.verbs.now a.points.now c.push_piece.new.verbs c.push_piece.new.points) c.of_vectors-c.ensures r

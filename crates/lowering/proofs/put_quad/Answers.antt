@@ -1,10 +1,9 @@
-use mathlib.Core.Path.{refl, ap}
-use Prim.Native.Nat.{ℕ, ◌+◌, ◌*◌}
+use Prim.Native.Nat.{◌*◌}
 use lib.ListN.{length-set}
 use native.Mathlib.Omega.{arith}
 use Rattle.conic.specs.Vectors.{point_in}
 use Rattle.conic.proofs.Vectors.{four_lanes}
-use Rattle.lowering.proofs.Writing.{put_four, bit}
+use Rattle.lowering.proofs.Writing.{put_four}
 use Rattle.lowering.proofs.put_quad.Goals as goal
 
 pub bounds-points-i-2 : goal.bounds-points-i-2
@@ -19,10 +18,6 @@ bounds-points-i-4 c = simp length-set (omega arith)
 pub returns : goal.returns
 returns c =
     let a = c.args in
-    let h = c.requires in
     let q = point_in a.ctrl 0 in
     let p = point_in a.ends 2 in
-    record {
-      points_after = rw (four_lanes a.ctrl c.fits-ctrl.0, four_lanes a.ends c.fits-ends.0) (put_four a.points.now (2 * a.at.now) q.x q.y p.x p.y (omega (arith, h.1)));
-      at_after = (refl, ap (λ (b : ℕ). a.word.now + b) (bit a.start h.0));
-    }
+    rw (four_lanes a.ctrl c.fits-ctrl.0, four_lanes a.ends c.fits-ends.0) (put_four a.points.now (2 * a.at) q.x q.y p.x p.y (omega (arith, c.requires)))
