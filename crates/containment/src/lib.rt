@@ -78,7 +78,7 @@ fn is_within(delta: f32, scale: f32) -> bool
 }
 
 #[tactic(auto, unfolding(crate::specs::Contains::square_contains))]
-fn square_contains(param: Quadrant, norm_point: Point) -> bool
+pub fn square_contains(param: Quadrant, norm_point: Point) -> bool
     ensures { result ≡ square_contains param norm_point }
 {
     let x_delta = param.right.offset.x + param.right.se_a - norm_point.x;

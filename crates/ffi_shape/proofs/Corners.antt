@@ -1,11 +1,10 @@
--- Corners asked one after the other, and that all of them are the shape's answer.
+-- All four corners, or the one that describes them all, are the shape's answer.
 use mathlib.Core.Path.{◌≡◌, refl, sym, ap, ◌∙◌}
 use mathlib.Core.Bool.{Bool, true, false, ◌&&◌}
 use mathlib.Core.List.{List}
-use Prim.Native.Nat.{ℕ, zero, suc, ◌+◌, ◌*◌}
+use Prim.Native.Nat.{ℕ}
 use lib.ListN.{length, get_or}
 use lib.Ieee.{Float, nan, eq, ne}
-use Rattle.std.specs.List.{list_all, range_with_len}
 use Rattle.std.specs.Int.{from_bool}
 use Rattle.geometry.specs.declared.Point.{Point}
 use Rattle.octant.specs.Binary32 as binary32
@@ -15,12 +14,6 @@ use Rattle.containment.specs.Contains.{round_contains, norm_contains, corner_con
 use Rattle.ffi_shape.proofs.Answers.{from_bool-is}
 use Rattle.ffi_shape.specs.Layout.{quadrant_at, shape_at}
 use Rattle.ffi_shape.specs.Making.{corners_hold, holds_of}
-
--- n corners from the k-th on, asked one by one
-pub asked : (fs : List Float) (p : Point) (check : Bool) (n k : ℕ) → list_all (λ i. corner_contains_of (quadrant_at fs (22 * i)) p check) (range_with_len k n) ≡ corners_hold fs p check n k
-unfolding corners_hold
-asked fs p check zero k = refl
-asked fs p check (suc n) k = ap (λ (b : Bool). corner_contains_of (quadrant_at fs (22 * k)) p check && b) (asked fs p check n (k + 1))
 
 and-true : (b : Bool) → (b && true) ≡ b
 and-true true = refl

@@ -3,3 +3,4 @@ pub mod Storing
 pub mod ReadBack
 pub mod Answers
 pub mod Corners
+pub mod Asked

@@ -1,9 +1,10 @@
 -- What the two exported functions on shapes answer. Definitions only.
-use Rattle.std.specs.Prelude.{Bool, true, cond, ◌&&◌, List, ℕ, zero, suc, ◌+◌, ◌*◌, length, eqb, Float}
+use Rattle.std.specs.Prelude.{Bool, true, cond, ◌&&◌, List, ◌++◌, ℕ, zero, suc, ◌+◌, ◌*◌, ◌/◌, ◌%◌, length, eqb, Float}
+use Rattle.geometry.specs.Point.{sub_of, div_of}
 use Rattle.geometry.specs.declared.Point.{Point}
 use Rattle.shape.specs.Refusal.{Outcome, made, refused, new_of}
 use Rattle.containment.specs.Contains.{corner_contains_of, contains_of}
-use Rattle.ffi_shape.specs.Layout.{shape_floats, quadrant_at, shape_at, bounds_at, radii_at}
+use Rattle.ffi_shape.specs.Layout.{point_floats, shape_floats, point_at, quadrant_at, shape_at, bounds_at, radii_at}
 
 -- this boundary's own number: a slice has the wrong length
 abbrev pub wrong_length : ℕ
@@ -30,6 +31,21 @@ make_of sizes old = cond (eqb (length sizes) 12 && eqb (length old) 89) (left_by
 unfoldable pub corners_hold : List Float → Point → Bool → ℕ → ℕ → Bool
 corners_hold fs p check zero k = true
 corners_hold fs p check (suc n) k = corner_contains_of (quadrant_at fs (22 * k)) p check && corners_hold fs p check n (k + 1)
+
+-- a point in the own spaces of the corner at i and of the next, as a vector: x, y, x, y
+abbrev own_at : List Float → ℕ → Point → Point
+own_at fs i p = div_of (sub_of p (point_at fs i)) (point_at fs (i + 2))
+
+abbrev pub own_points : List Float → ℕ → Point → List Float
+own_points fs i p = point_floats (own_at fs i p) ++ point_floats (own_at fs (i + 22) p)
+
+-- h of each of the numbers 0 to 3 whose bit is set
+unfoldable pub asked_hold : (ℕ → Bool) → ℕ → Bool
+asked_hold h asked =
+    cond (eqb (asked % 2) 1) (h 0) true
+    && (cond (eqb (asked / 2 % 2) 1) (h 1) true
+    && (cond (eqb (asked / 4 % 2) 1) (h 2) true
+    && (cond (eqb (asked / 8 % 2) 1) (h 3) true && true)))
 
 -- 1 where the shape contains the point, 0 where not
 unfoldable pub holds_of : List Float → Point → ℕ

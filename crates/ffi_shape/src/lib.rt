@@ -3,18 +3,20 @@
 
 #![tactic(auto)]
 
-ghost use Rattle.std.specs.Prelude.{◌≡◌, true, false, ◌+◌, ◌*◌, ◌<◌, ◌≤◌, length};
+ghost use Rattle.std.specs.Prelude.{◌≡◌, true, false, ◌+◌, ◌*◌, ◌<◌, ◌≤◌, length, get_or};
+ghost use Rattle.std.specs.Float.{nan};
 ghost use Rattle.octant.specs.Octant.{point};
 ghost use Rattle.containment.specs.Contains.{norm_contains, round_contains, corner_contains_of};
 ghost use Rattle.stream.specs.Stream.{put};
 ghost use Rattle.ffi_shape.specs.Layout.{octant_floats, quadrant_floats, shape_floats, octant_at, quadrant_at, shape_at, bounds_at, radii_at};
-ghost use Rattle.ffi_shape.specs.Making.{left, make_of, corners_hold, holds_of};
+ghost use Rattle.ffi_shape.specs.Making.{left, make_of, own_points, asked_hold, corners_hold, holds_of};
 
 use ffi::WRONG_LENGTH;
 use geometry::Point;
 use octant::Octant;
 use quadrant::Quadrant;
 use shape::{Bounds, CornerRadii, RoundSuperellipse};
+use std::simd::prelude::*;
 use stream::{point_at, put_point};
 
 // How many floats a shape is made of, and how many it is.
@@ -145,50 +147,71 @@ pub fn shackletongue_shape(sizes: &[f32], shape: &mut [f32]) -> u32
     }
 }
 
-// Whether the k-th corner holds a point in its own space. Called from several places, it is compiled apart from
-// them, and reads the floats that it needs.
-fn norm_holds(shape: &[f32; 89], k: usize, x: f32, y: f32) -> bool
-    requires { k < 4 }
-    ensures { result ≡ norm_contains (quadrant_at shape.now (22 * k)) (point x y) }
-{
-    containment::norm_contains(quadrant_at(shape, 22 * k), Point { x, y })
-}
-
-// Whether the k-th corner holds the point, or is not asked: it is not in its quadrant.
-#[tactic(auto, unfolding(containment::specs::Contains::corner_contains_of, crate::specs::Layout::quadrant_at))]
-fn corner_holds(shape: &[f32; 89], k: usize, p: Point) -> bool
-    requires { k < 4 }
-    ensures { result ≡ corner_contains_of (quadrant_at shape.now (22 * k)) p true }
-{
-    let n = (p - point_at(shape, 22 * k)) / point_at(shape, 22 * k + 2);
-    if n.x < 0.0 {
-        return true;
-    }
-    if n.y < 0.0 {
-        return true;
-    }
-    norm_holds(shape, k, n.x, n.y)
-}
-
-fn corners_hold(shape: &[f32; 89], p: Point) -> bool
-    ensures { result ≡ corners_hold shape.now p true 4 0 }
-{
-    (0..4).all(|k| corner_holds(shape, k, p))
-}
-
-// Whether the first corner, a round one, holds a point in its own space. The right octant is read only where the top one
-// holds the point.
+// Whether the round corner whose floats begin at `at` holds a point in its own space. The right octant is read only where
+// the top one holds the point.
+#[inline(always)]
 #[tactic(auto, unfolding(crate::specs::Layout::quadrant_at, containment::specs::Contains::round_contains))]
-fn octants_hold(shape: &[f32; 89], n: Point) -> bool
-    ensures { result ≡ round_contains (quadrant_at shape.now 0) n }
+fn octants_hold(shape: &[f32; 89], at: usize, n: Point) -> bool
+    requires { at + 22 ≤ 89 }
+    ensures { result ≡ round_contains (quadrant_at shape.now at) n }
 {
-    let top = octant_at(shape, 4);
+    let top = octant_at(shape, at + 4);
     if containment::octant_contains(top, n - top.offset) {
-        let right = octant_at(shape, 13);
+        let right = octant_at(shape, at + 13);
         let q = n - right.offset;
         return containment::octant_contains(right, Point { x: q.y, y: q.x });
     }
     false
+}
+
+// Whether the corner whose floats begin at `at` holds a point in its own space. Compiled apart, it reads the floats that it
+// needs, and no record is copied for it.
+#[inline(never)]
+fn norm_holds(shape: &[f32; 89], at: usize, x: f32, y: f32) -> bool
+    requires { at + 22 ≤ 89 }
+    ensures { result ≡ norm_contains (quadrant_at shape.now at) (point x y) }
+{
+    let corner = quadrant_at(shape, at);
+    if corner.is_square() {
+        return containment::square_contains(corner, Point { x, y });
+    }
+    octants_hold(shape, at, Point { x, y })
+}
+
+// A point in the own space of the corner whose floats begin at `at`, and in that of the next.
+fn own_points(shape: &[f32; 89], at: usize, p: Point) -> f32x4
+    requires { at + 44 ≤ 89 }
+    ensures { result ≡ own_points shape.now at p }
+{
+    let offset = f32x4::from_array([shape[at], shape[at + 1], shape[at + 22], shape[at + 23]]);
+    let scale = f32x4::from_array([shape[at + 2], shape[at + 3], shape[at + 24], shape[at + 25]]);
+    (f32x4::from_array([p.x, p.y, p.x, p.y]) - offset) / scale
+}
+
+// Whether each corner that is asked, by the bits of a number, holds its own of the points (x, y).
+fn asked_hold(shape: &[f32; 89], x: [f32; 4], y: [f32; 4], asked: u64) -> bool
+    requires { asked < 16 }
+    ensures { result ≡ asked_hold (λ k. norm_contains (quadrant_at shape.now (22 * k)) (point (get_or x k nan) (get_or y k nan))) asked }
+{
+    if asked == 0 {
+        return true;
+    }
+    let k = asked.trailing_zeros() as usize;
+    norm_holds(shape, 22 * k, x[k], y[k]) && asked_hold(shape, x, y, asked & (asked - 1))
+}
+
+// Whether each corner in whose quadrant the point lies holds it. Most points lie in one: which one is told by no branch, since
+// it is hard to foresee.
+fn corners_hold(shape: &[f32; 89], p: Point) -> bool
+    ensures { result ≡ corners_hold shape.now p true 4 0 }
+{
+    let a = own_points(shape, 0, p);
+    let b = own_points(shape, 44, p);
+    let x = a.shuffle(b, [0, 2, 4, 6]);
+    let y = a.shuffle(b, [1, 3, 5, 7]);
+    let zero = f32x4::splat(0.0);
+    let passed_over = (x.simd_lt(zero) | y.simd_lt(zero)).to_bitmask();
+    asked_hold(shape, x.to_array(), y.to_array(), 15 - passed_over)
 }
 
 // Whether the one corner that describes all four holds the point. Round corners, nearly all, are asked in place.
@@ -200,7 +223,7 @@ fn same_holds(shape: &[f32; 89], p: Point) -> bool
     if corner.is_square() {
         return norm_holds(shape, 0, n.x, n.y);
     }
-    octants_hold(shape, n)
+    octants_hold(shape, 0, n)
 }
 
 // 1 where the shape contains the point, 0 where not.

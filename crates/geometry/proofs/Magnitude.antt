@@ -1,15 +1,14 @@
--- The greater of x and 0 - x, which is exact, is x without its sign. Assumes nothing.
-use mathlib.Core.Path.{◌≡◌, refl, sym, ap, ◌∙◌, subst}
+-- x where it is above 0, and else 0 - x, which is exact, is x without its sign. Assumes nothing.
+use mathlib.Core.Path.{◌≡◌, refl, ap, ◌∙◌}
 use mathlib.Core.Bool.{Bool, true, false, cond}
 use Prim.Native.Nat.{ℕ, zero, suc, ◌+◌, ◌-◌, ◌*◌}
-use native.Mathlib.Nat.{zero-mul, mul-pos}
+use native.Mathlib.Nat.{zero-mul}
 use native.Mathlib.Omega.{arith}
 use lib.Dec.{T, ltb, lt→ltb}
 use lib.IntN.{ℤ}
 use lib.Ieee.{Float, nan, inf, fin, binary32, of_bits, neg, add, sub, sum, lt, fits, round, up, down}
-use lib.Ieee.Bits.{is_true}
 use lib.Lanes.{top}
-use lib.Ieee.Fits.{up_pos, down_pos, neg-fits}
+use lib.Ieee.Fits.{up_pos, neg-fits}
 use Rattle.ieee.specs.Basic.{abs_of}
 use Rattle.rounding.proofs.Meets.{round_own}
 
@@ -34,36 +33,31 @@ of_zero e h =
     let no : ltb (0 * down e) (0 * up e * 1) ≡ false = rw (zero-mul (down e), zero-mul (up e)) in
     rw no (own false zero e (0 * down e - 0 * up e * 1) (1 * down e) (omega arith) (omega arith) h)
 
-of_positive : (m : ℕ) (e : ℤ) → T (fits binary32 (fin false (suc m) e)) → opposite (fin false (suc m) e) ≡ fin true (suc m) e
-unfolding sub add neg sum of_bits
-of_positive m e h =
+abbrev none : Float
+none = of_bits binary32 0
+
+above : (x : Float) → T (lt none x) → x ≡ abs_of x
+unfolding abs_of of_bits lt
+above nan t = refl
+above (inf true) t = absurd t
+above (inf false) t = refl
+above (fin true m e) t = absurd t
+above (fin false m e) t = refl
+
+not_above : (x : Float) → T (fits binary32 x) → (T (lt none x) → T false) → opposite x ≡ abs_of x
+unfolding abs_of sub add neg of_bits lt
+not_above nan h t = refl
+not_above (inf true) h t = refl
+not_above (inf false) h t = absurd (t tt)
+not_above (fin true m e) h t = of_negative m e h
+not_above (fin false zero e) h t = of_zero e h
+not_above (fin false (suc m) e) h t =
     let some = up_pos e in
-    let yes : ltb (0 * down e) (suc m * up e * 1) ≡ true = is_true _ (lt→ltb (0 * down e) (suc m * up e * 1) (omega arith)) in
-    rw yes (own true (suc m) e (suc m * up e * 1 - 0 * down e) (1 * down e) (omega arith) (omega arith) (neg-fits binary32 (fin false (suc m) e) h))
-
--- where 0 - x is less, x is positive; elsewhere 0 - x has no sign
-greater : (x : Float) → T (fits binary32 x) → T (lt (opposite x) x) → x ≡ abs_of x
-unfolding abs_of sub add neg of_bits lt
-greater nan h t = refl
-greater (inf true) h t = absurd t
-greater (inf false) h t = refl
-greater (fin true m e) h t = absurd (subst (λ (y : Float). T (lt y (fin true m e))) (of_negative m e h) t)
-greater (fin false m e) h t = refl
-
-not_greater : (x : Float) → T (fits binary32 x) → (T (lt (opposite x) x) → T false) → opposite x ≡ abs_of x
-unfolding abs_of sub add neg of_bits lt
-not_greater nan h t = refl
-not_greater (inf true) h t = refl
-not_greater (inf false) h t = absurd (t tt)
-not_greater (fin true m e) h t = of_negative m e h
-not_greater (fin false zero e) h t = of_zero e h
-not_greater (fin false (suc m) e) h t =
-    let some = mul-pos (up_pos e) (down_pos e) in
-    absurd (t (subst (λ (y : Float). T (lt y (fin false (suc m) e))) (sym (of_positive m e h)) (lt→ltb 0 (suc m * up e * down e + suc m * up e * down e) (omega arith))))
+    absurd (t (lt→ltb (0 * down e) (suc m * up e * 1) (omega arith)))
 
 -- as a vector's lane has it
-pub chosen : (x : Float) → T (fits binary32 x) → cond (top 31 (cond (lt (opposite x) x) 0xffff_ffff 0)) x (opposite x) ≡ abs_of x
-chosen x h = pick (lt (opposite x) x) (greater x h) (not_greater x h)
+pub chosen : (x : Float) → T (fits binary32 x) → cond (top 31 (cond (lt none x) 0xffff_ffff 0)) x (opposite x) ≡ abs_of x
+chosen x h = pick (lt none x) (above x) (not_above x h)
   where
     pick : (b : Bool) → (T b → x ≡ abs_of x) → ((T b → T false) → opposite x ≡ abs_of x) → cond (top 31 (cond b 0xffff_ffff 0)) x (opposite x) ≡ abs_of x
     pick true f g = f tt

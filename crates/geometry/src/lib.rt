@@ -115,13 +115,14 @@ impl Neg for Point {
 }
 
 impl Point {
-    // As ieee's `abs`, by the greater of v and 0 - v, of both coordinates in one vector: a NaN is not set apart.
+    // As ieee's `abs`, by v where it is above 0 and else by 0 - v, of both coordinates in one vector: a NaN is not set apart, and
+    // the comparison does not wait for the difference.
     pub fn abs(self) -> Point
         ensures { result ≡ abs_point self }
     {
         let v = f32x2::from_array([self.x, self.y]);
-        let opposite = f32x2::splat(0.0) - v;
-        let [x, y] = opposite.simd_lt(v).select(v, opposite).to_array();
+        let zero = f32x2::splat(0.0);
+        let [x, y] = zero.simd_lt(v).select(v, zero - v).to_array();
         Point { x, y }
     }
 
