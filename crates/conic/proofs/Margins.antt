@@ -1,22 +1,21 @@
 -- The inequalities that decide without roots, over numbers alone. h, e and l are 2 ^ 23, 2 ^ 23 + 1 and 2 ^ 149 where they are used. Assumes nothing.
 use mathlib.Core.Path.{◌≡◌, sym, ap, ◌∙◌}
 use Prim.Native.Nat.{ℕ, ◌*◌, ◌≤◌, ◌<◌}
-use native.Mathlib.Nat.{le_trans, le_of_eq, mul_comm, mul_assoc, mul_left_comm, mul_right_comm, mul-mul-mul_comm, mul-le-mul_left, mul-le-mul_right, le_of_mul-le-mul_left, le_of_mul-le-mul_right}
-use lib.Ieee.Positive.{through}
+use native.Mathlib.Nat.{le_trans, le_of_eq, mul_comm, mul_assoc, mul_left_comm, mul-mul-mul_comm, mul-le-mul_left, mul-le-mul_right, le_of_mul-le-mul_left, le_of_mul-le-mul_right}
 use Rattle.ieee.proofs.Isqrt.{square_le}
 
 -- four bounds in a row, the last of which leads back to the first
-round_trip : (n d m c x y p q r s u v j k : ℕ) → 0 < n * c → n * p ≤ x * (q * d) → x * r ≤ s * y → y * (u * c) ≤ m * v → m * d * j ≤ k * (n * c) → p * r * u * j ≤ v * s * q * k
+round_trip : (n d m c x y p q r s u v j k : ℕ) → 0 < n * c → n * p ≤ x * (q * d) → x * r ≤ s * y → y * (u * c) ≤ m * v → j * m * d ≤ n * (k * c) → p * r * u * j ≤ v * s * q * k
 round_trip n d m c x y p q r s u v j k N a b f g =
     let a' : n * p * (c * (r * u * j)) ≤ x * (q * d) * (c * (r * u * j)) = mul-le-mul_right (c * (r * u * j)) a in
     let b' : x * r * (q * d * (c * (u * j))) ≤ s * y * (q * d * (c * (u * j))) = mul-le-mul_right (q * d * (c * (u * j))) b in
     let f' : y * (u * c) * (s * q * (d * j)) ≤ m * v * (s * q * (d * j)) = mul-le-mul_right (s * q * (d * j)) f in
-    let g' : m * d * j * (v * s * q) ≤ k * (n * c) * (v * s * q) = mul-le-mul_right (v * s * q) g in
+    let g' : j * m * d * (v * s * q) ≤ n * (k * c) * (v * s * q) = mul-le-mul_right (v * s * q) g in
     let e0 : n * c * (p * r * u * j) ≡ n * p * (c * (r * u * j)) = simp (mul_assoc, mul_left_comm) in
     let e1 : x * (q * d) * (c * (r * u * j)) ≡ x * r * (q * d * (c * (u * j))) = simp (mul_assoc, mul_comm, mul_left_comm) in
     let e2 : s * y * (q * d * (c * (u * j))) ≡ y * (u * c) * (s * q * (d * j)) = simp (mul_assoc, mul_comm, mul_left_comm) in
-    let e3 : m * v * (s * q * (d * j)) ≡ m * d * j * (v * s * q) = simp (mul_assoc, mul_comm, mul_left_comm) in
-    let e4 : k * (n * c) * (v * s * q) ≡ n * c * (v * s * q * k) = simp (mul_assoc, mul_comm, mul_left_comm) in
+    let e3 : m * v * (s * q * (d * j)) ≡ j * m * d * (v * s * q) = simp (mul_assoc, mul_comm, mul_left_comm) in
+    let e4 : n * (k * c) * (v * s * q) ≡ n * c * (v * s * q * k) = simp (mul_assoc, mul_comm, mul_left_comm) in
     le_of_mul-le-mul_left
     (le_trans (le_of_eq e0) (le_trans a' (le_trans (le_of_eq e1) (le_trans b' (le_trans (le_of_eq e2) (le_trans f' (le_trans (le_of_eq e3) (le_trans g' (le_of_eq e4)))))))))
     N
@@ -25,27 +24,12 @@ round_trip n d m c x y p q r s u v j k N a b f g =
 squared : (x e d : ℕ) → x * e * (x * e) * d ≡ x * x * (e * e * d)
 squared x e d = ap (λ (z : ℕ). z * d) (mul-mul-mul_comm x e x e) ∙ mul_assoc (x * x) (e * e) d
 
--- x / l and y / l are roots of n / d and m / c, rounded, x is at most b / a times y, and yet n / d is at least so many times m / c: then the factors of the errors say so
-pub no_room : (h e l n d m c x y a b j k : ℕ) → 0 < n * c → n * (h * l * (h * l)) ≤ x * e * (x * e) * d → x * (h * a) ≤ b * e * y → y * h * (y * h) * c ≤ m * (e * l * (e * l)) → m * d * j ≤ k * (n * c)
+-- x / l and y / l are roots of n / d and m / c, rounded, x is at most b / a times y, and yet n / d is at least j / k times m / c: then the factors of the errors say so
+pub no_room : (h e l n d m c x y a b j k : ℕ) → 0 < n * c → n * (h * l * (h * l)) ≤ x * e * (x * e) * d → x * (h * a) ≤ b * e * y → y * h * (y * h) * c ≤ m * (e * l * (e * l)) → j * m * d ≤ n * (k * c)
     → h * l * (h * l) * (h * a * (h * a)) * (h * h) * j ≤ e * l * (e * l) * (b * e * (b * e)) * (e * e) * k
 no_room h e l n d m c x y a b j k N f g i z =
     round_trip n d m c (x * x) (y * y) (h * l * (h * l)) (e * e) (h * a * (h * a)) (b * e * (b * e)) (h * h) (e * l * (e * l)) j k N (le_trans f (le_of_eq (squared x e d)))
     (le_trans (le_of_eq (mul-mul-mul_comm x x (h * a) (h * a))) (le_trans (square_le g) (le_of_eq (mul-mul-mul_comm (b * e) y (b * e) y)))) (le_trans (le_of_eq (sym (squared y h c))) i) z
-
--- ---- the rounded product p / l of t / m and n / c, against a / b
-pub below_product : (h e l t m n c p a b : ℕ) → 0 < l → p * h * (m * c) ≤ t * n * (e * l) → a * l ≤ p * b → a * c * (h * m) ≤ t * e * (n * b)
-below_product h e l t m n c p a b L f g =
-    let x : p * (h * (m * c)) ≤ t * n * e * l = le_trans (le_of_eq (sym (mul_assoc p h (m * c)))) (le_trans f (le_of_eq (sym (mul_assoc (t * n) e l)))) in
-    let y : a * c * (h * m) ≡ a * (h * (m * c)) = simp (mul_assoc, mul_comm, mul_left_comm) in
-    let z : t * n * e * b ≡ t * e * (n * b) = simp (mul_assoc, mul_comm, mul_left_comm) in
-    le_trans (le_of_eq y) (le_trans (through a p (t * n * e) b l (h * (m * c)) L g x) (le_of_eq z))
-
-pub above_product : (h e l t m n c p a b : ℕ) → 0 < l → t * n * (h * l) ≤ p * e * (m * c) → p * b ≤ a * l → n * b * (h * t) ≤ m * e * (a * c)
-above_product h e l t m n c p a b L f g =
-    let x : t * n * h * l ≤ p * (e * (m * c)) = le_trans (le_of_eq (mul_assoc (t * n) h l)) (le_trans f (le_of_eq (mul_assoc p e (m * c)))) in
-    let y : n * b * (h * t) ≡ t * n * h * b = simp (mul_assoc, mul_comm, mul_left_comm) in
-    let z : a * (e * (m * c)) ≡ m * e * (a * c) = simp (mul_assoc, mul_comm, mul_left_comm) in
-    le_trans (le_of_eq y) (le_trans (through (t * n * h) p a (e * (m * c)) l b L x g) (le_of_eq z))
 
 -- ---- the rounded product r / l of t / m and y / l, against x / l
 pub below_scaled : (h e l t m y r x : ℕ) → 0 < l → r * h * (m * l) ≤ t * y * (e * l) → x ≤ r → x * (h * m) ≤ t * e * y
@@ -60,17 +44,10 @@ above_scaled h e l t m y r x L f g =
     let b : r * e * (m * l) ≡ m * e * r * l = simp (mul_assoc, mul_comm, mul_left_comm) in
     le_trans (le_of_mul-le-mul_right (le_trans (le_of_eq a) (le_trans f (le_of_eq b))) L) (mul-le-mul_left (m * e) g)
 
--- ---- for n / d above a / b: a multiple of it, and of its root, is above the smallest normal value
-pub small_product : (n d a b t m g l : ℕ) → 0 < d → a * d ≤ n * b → t * n * l ≤ g * (m * d) → a * (t * l) ≤ g * m * b
-small_product n d a b t m g l D f i =
-    let x : a * (t * l) * d ≡ a * d * (t * l) = mul_right_comm a (t * l) d in
-    let y : n * b * (t * l) ≡ t * n * l * b = simp (mul_assoc, mul_comm, mul_left_comm) in
-    let z : g * (m * d) * b ≡ g * m * b * d = simp (mul_assoc, mul_comm, mul_left_comm) in
-    le_of_mul-le-mul_right (le_trans (le_of_eq x) (le_trans (mul-le-mul_right (t * l) f) (le_trans (le_of_eq y) (le_trans (mul-le-mul_right b i) (le_of_eq z))))) D
-
-pub small_root : (n d a b s e p t g : ℕ) → 0 < d → a * d ≤ n * b → n * p ≤ s * e * (s * e) * d → t * s ≤ g → a * p * (t * t) ≤ g * g * (e * e) * b
-small_root n d a b s e p t g D f i j =
-    let w : a * p * (t * t) * d ≡ a * d * (p * (t * t)) = simp (mul_assoc, mul_comm, mul_left_comm) in
+-- ---- for n / d of at least 1 / b: a multiple of its root is above the smallest normal value
+pub small_root : (n d b s e p t g : ℕ) → 0 < d → d ≤ n * b → n * p ≤ s * e * (s * e) * d → t * s ≤ g → p * (t * t) ≤ g * g * (e * e) * b
+small_root n d b s e p t g D f i j =
+    let w : p * (t * t) * d ≡ d * (p * (t * t)) = mul_comm (p * (t * t)) d in
     let x : n * b * (p * (t * t)) ≡ n * p * (b * (t * t)) = simp (mul_assoc, mul_left_comm) in
     let y : s * e * (s * e) * d * (b * (t * t)) ≡ t * s * (t * s) * (e * e * b * d) = simp (mul_assoc, mul_comm, mul_left_comm) in
     let z : g * g * (e * e * b * d) ≡ g * g * (e * e) * b * d = simp (mul_assoc, mul_comm, mul_left_comm) in

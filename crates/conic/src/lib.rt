@@ -47,10 +47,8 @@ pub enum Lowered {
 // How often a conic is halved at most.
 pub const MAX_DEPTH: usize = 6;
 
-// Bounds within which squared lengths decide: with a chord's square above TINY, a distance whose square is below LESS times that of
-// the chord is near, and one whose square is above MORE times it is not. In between, the roots round one way or the other.
-const TINY: f32 = 1e-30;
-
+// Bounds outside which squared lengths decide: a distance whose square is below LESS times that of the chord is near, and one whose
+// square is above MORE times it is not, however the product is rounded. In between, the roots round one way or the other.
 const LESS: f32 = 9.99998e-7;
 
 const MORE: f32 = 1.000002e-6;
@@ -211,7 +209,8 @@ fn near_by_squares(squares: f32x4) -> Nearness
     let bounds = f32x4::from_array([LESS, LESS, MORE, MORE]) * chords;
     let lesser = squares.shuffle(bounds, [0, 1, 6, 7]);
     let greater = bounds.shuffle(squares, [0, 1, 4, 5]);
-    let tests = lesser.simd_lt(greater) & f32x4::splat(TINY).simd_lt(chords);
+    // Strictly: a square that equals a rounded bound may be on either side of the bound itself.
+    let tests = lesser.simd_lt(greater);
     let bits = tests.to_bitmask();
     // Bits 0 and 1 say near, bits 2 and 3 far, of the left half and the right: the sum is 3 where each half has one of both.
     let decided = bits % 4 + (bits >> 2) == 3;

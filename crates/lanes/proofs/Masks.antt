@@ -49,9 +49,16 @@ both_32 true false = refl
 both_32 false true = refl
 both_32 false false = refl
 
-first_32 : (b : Bool) → top (hbits w32) (mask w32 b) ≡ b
+pub first_32 : (b : Bool) → top (hbits w32) (mask w32 b) ≡ b
 first_32 true = refl
 first_32 false = refl
+
+-- of two masks
+pub both_first : (a b : Bool) → top (hbits w32) (bit_and (mask w32 a) (mask w32 b)) ≡ cond b a false
+both_first true true = refl
+both_first true false = refl
+both_first false true = refl
+both_first false false = refl
 
 below_32 : (b : Bool) → lt_z (to_z w32 (mask w32 b)) (pos 0) ≡ b
 below_32 true = refl

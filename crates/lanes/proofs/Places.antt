@@ -96,12 +96,6 @@ zip2-agree p f g k (x ∷ xs) (y ∷ ys) e =
     let t = both (p x y) (list_all (λ (b : Bool). b) (zip2 p xs ys)) e in
     rw (k x y t.0, zip2-agree p f g k xs ys t.1)
 
-pub All-from_zip2 : {A B : Type 0} (p : A → B → Bool) (P : A → Type 0) → ((a : A) (b : B) → p a b ≡ true → P a) → (xs : List A) (ys : List B) → length xs ≡ length ys → list_all (λ (b : Bool). b) (zip2 p xs ys) ≡ true → All P xs
-All-from_zip2 p P k [] ys l e i d h = absurd (omega arith)
-All-from_zip2 p P k (x ∷ xs) [] l e i d h = absurd (omega arith)
-All-from_zip2 p P k (x ∷ xs) (y ∷ ys) l e zero d h = k x y (both (p x y) (list_all (λ (b : Bool). b) (zip2 p xs ys)) e).0
-All-from_zip2 p P k (x ∷ xs) (y ∷ ys) l e (suc i) d h = All-from_zip2 p P k xs ys (omega arith) (both (p x y) (list_all (λ (b : Bool). b) (zip2 p xs ys)) e).1 i d (omega arith)
-
 pub All-one : {A : Type 0} (P : A → Type 0) (a : A) → P a → All P (a ∷ [])
 All-one P a p zero d h = p
 All-one P a p (suc i) d h = absurd (omega arith)
@@ -131,3 +125,12 @@ all_pairs p q r k (x ∷ xs) (y ∷ ys) d e =
     let first = both (p x) (list_all p xs) d in
     let second = both (q y) (list_all q ys) e in
     rw (k x y first.0 second.0) (all_pairs p q r k xs ys first.1 second.1)
+
+-- a list of four, place by place
+pub four_lanes : {A : Type 0} (d : A) (xs : List A) → length xs ≡ 4 → xs ≡ slice_index_or xs 0 d ∷ slice_index_or xs 1 d ∷ slice_index_or xs 2 d ∷ slice_index_or xs 3 d ∷ []
+four_lanes d [] e = absurd (omega arith)
+four_lanes d (v ∷ []) e = absurd (omega arith)
+four_lanes d (v ∷ w ∷ []) e = absurd (omega arith)
+four_lanes d (v ∷ w ∷ x ∷ []) e = absurd (omega arith)
+four_lanes d (v ∷ w ∷ x ∷ y ∷ []) e = refl
+four_lanes d (v ∷ w ∷ x ∷ y ∷ z ∷ xs) e = absurd (omega arith)

@@ -1,18 +1,15 @@
-use mathlib.Core.Path.{◌≡◌, sym, subst, ◌∙◌}
-use mathlib.Core.Bool.{Bool, true, false, cond}
-use lib.Dec.{T}
+use mathlib.Core.Path.{◌≡◌, ◌∙◌}
+use mathlib.Core.Bool.{Bool}
 use lib.Ieee.{Float, binary32, mul, lt}
+use Rattle.std.proofs.lemmas.Float.{T_from_true}
 use Rattle.geometry.specs.declared.Point.{Point}
 use Rattle.geometry.specs.Point.{length_squared_of}
 use Rattle.conic.specs.Conic.{near_of}
 use Rattle.conic.proofs.Squares.{squared_fits, squared_unsigned}
-use Rattle.conic.proofs.Near.{tiny, less, more, lt-le, near, far}
+use Rattle.conic.proofs.Near.{less, more, near, far}
+use Rattle.lanes.proofs.Masks.{first_32}
 use Rattle.conic.proofs.Vectors.{OneOf, first_tells, first_lane, second_lane, one_each}
 use Rattle.conic.proofs.near_by_squares.Goals as goal
-
-both : (a b : Bool) → cond a b false ≡ true → T a × T b
-both true b e = (tt, subst T (sym e) tt)
-both false b e = absurd (subst T (sym e) tt)
 
 -- one half, whose middles are p apart and whose chord is q
 module _ (p q : Point) where
@@ -28,17 +25,17 @@ module _ (p q : Point) where
   abbrev above : Bool
   above = lt (mul binary32 more chord) distance
 
-  told : OneOf (cond (lt tiny chord) below false) (cond (lt tiny chord) above false) → cond (lt tiny chord) below false ≡ near_of distance chord
+  told : OneOf below above → below ≡ near_of distance chord
   told one =
-      first_tells _ _ (near_of distance chord) one
-      (λ e. let t = both (lt tiny chord) below e in near distance chord (squared_fits p) (squared_fits q) t.0 (squared_unsigned p) (lt-le _ _ t.1))
-      (λ e. let t = both (lt tiny chord) above e in far distance chord (squared_fits p) (squared_fits q) t.0 t.1)
+      first_tells below above (near_of distance chord) one
+      (λ e. near distance chord (squared_fits p) (squared_fits q) (squared_unsigned p) (squared_unsigned q) (T_from_true below e))
+      (λ e. far distance chord (squared_fits p) (squared_fits q) (squared_unsigned p) (squared_unsigned q) (T_from_true above e))
 
 pub returns-then-decided : goal.returns-then-decided
 returns-then-decided c h e =
     let n = c.nearness_from_bits.ensures in
-    let o = one_each _ _ _ _ _ _ _ _ (rw e at (c.if-decided.true)) in
-    (rw (n.0, e) (first_lane _ _ _ _ _ _ _ _ ∙ told _ _ o.0), rw (n.1, e) (second_lane _ _ _ _ _ _ _ _ ∙ told _ _ o.1))
+    let o = one_each _ _ _ _ (simp first_32 at (rw e at (c.if-decided.true))) in
+    (rw (n.0, e) (first_lane _ _ _ _ ∙ first_32 _ ∙ told _ _ o.0), rw (n.1, e) (second_lane _ _ _ _ ∙ first_32 _ ∙ told _ _ o.1))
 
 pub returns : goal.returns
 returns c h e =

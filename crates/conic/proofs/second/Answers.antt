@@ -1,5 +1,6 @@
-use Rattle.conic.proofs.Vectors.{four_lanes}
+use lib.Ieee.{nan}
+use Rattle.lanes.proofs.Places.{four_lanes}
 use Rattle.conic.proofs.second.Goals as goal
 
 pub returns : goal.returns
-returns c = rw (four_lanes c.args.v c.fits-v.0)
+returns c = rw (four_lanes nan c.args.v c.fits-v.0)

@@ -1,8 +1,9 @@
+use lib.Ieee.{nan}
 use Prim.Native.Nat.{◌*◌}
 use lib.ListN.{length-set}
 use native.Mathlib.Omega.{arith}
 use Rattle.conic.specs.Vectors.{point_in}
-use Rattle.conic.proofs.Vectors.{four_lanes}
+use Rattle.lanes.proofs.Places.{four_lanes}
 use Rattle.lowering.proofs.Writing.{put_four}
 use Rattle.lowering.proofs.put_quad.Goals as goal
 
@@ -20,4 +21,4 @@ returns c =
     let a = c.args in
     let q = point_in a.ctrl 0 in
     let p = point_in a.ends 2 in
-    rw (four_lanes a.ctrl c.fits-ctrl.0, four_lanes a.ends c.fits-ends.0) (put_four a.points.now (2 * a.at) q.x q.y p.x p.y (omega (arith, c.requires)))
+    rw (four_lanes nan a.ctrl c.fits-ctrl.0, four_lanes nan a.ends c.fits-ends.0) (put_four a.points.now (2 * a.at) q.x q.y p.x p.y (omega (arith, c.requires)))
