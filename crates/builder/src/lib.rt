@@ -6,9 +6,9 @@
 
 ghost use Rattle.std.specs.Prelude.{◌≡◌, false, [], ◌∷◌, ◌++◌, ◌+◌, ◌-◌, ◌*◌, ◌≤◌, length};
 ghost use Rattle.conic.specs.Conic.{flat_of};
-ghost use Rattle.conic.specs.Vectors.{conic_in};
+ghost use Rattle.conic.specs.Vectors.{point_in, conic_in};
 ghost use Rattle.stream.specs.Stream.{state, is_empty, push_all};
-ghost use Rattle.lowering.specs.Entries.{plain, elements_of, lowered_of};
+ghost use Rattle.lowering.specs.Entries.{plain, elements_of, lowered_of, builder_at};
 ghost use Rattle.calls.specs.Calls.{opening, attempt, outcome_of, conic_outcome_of, step};
 
 use calls::{BuildError, Call};
@@ -30,14 +30,24 @@ fn ensure_started(b: Builder, verbs: &mut [u8], points: &mut [f32]) -> Builder
     b
 }
 
-// One element, behind the opening move of a builder that is empty.
+// One element, behind the opening move of a builder that is empty. Nearly every builder is not, which is asked first: then nothing
+// is asked or written for the opening move, and less for the rest.
+#[inline(always)]
 fn add(b: Builder, verbs: &mut [u8], points: &mut [f32], e: Element) -> Result<Builder, BuildError>
     ensures { outcome_of result verbs.new points.new ≡ attempt (state b verbs.old points.old) (opening (is_empty b) ++ plain e ∷ []) }
 {
     let size = e.verb().point_count() as u32;
-    calls::admit(b, verbs.len(), points.len(), calls::opened_need(b, 1, size))?;
-    let o = ensure_started(b, verbs, points);
-    Ok(stream::push(o, verbs, points, e))
+    if b.verbs == 0 {
+        calls::admit(b, verbs.len(), points.len(), calls::opened_need(b, 1, size))?;
+        let o = ensure_started(b, verbs, points);
+        return Ok(stream::push(o, verbs, points, e));
+    }
+    let need = Need {
+        verbs: 1,
+        points: size as usize,
+    };
+    calls::admit(b, verbs.len(), points.len(), need)?;
+    Ok(stream::push(b, verbs, points, e))
 }
 
 pub fn move_to(
@@ -95,11 +105,38 @@ pub fn cubic_to(
     add(b, verbs, points, Element::Cubic(c0, c1, p))
 }
 
+// A conic's only quad, in the same way. The conic comes as vectors.
+#[inline(always)]
+fn single_to(
+    b: Builder,
+    verbs: &mut [u8],
+    points: &mut [f32],
+    ends: f32x4,
+    ctrl: f32x4,
+) -> Result<Builder, BuildError>
+    ensures { outcome_of result verbs.new points.new ≡ attempt (state b verbs.old points.old) (opening (is_empty b) ++ plain (Element.Quad (point_in ctrl 0) (point_in ends 2)) ∷ []) }
+{
+    if b.verbs == 0 {
+        calls::admit(b, verbs.len(), points.len(), calls::opened_need(b, 1, 2))?;
+        let o = ensure_started(b, verbs, points);
+        return Ok(lowering::push_single(o, verbs, points, ends, ctrl));
+    }
+    let need = Need {
+        verbs: 1,
+        points: 2,
+    };
+    calls::admit(b, verbs.len(), points.len(), need)?;
+    Ok(lowering::push_single(b, verbs, points, ends, ctrl))
+}
+
 // The quads of a conic that is more than one, behind the opening move of a builder that is empty. Compiled apart, since it
-// is long and what calls it need not be. The conic comes as vectors and a number, which stay in registers.
+// is long and what calls it need not be. The record and the conic come as vectors and numbers, which stay in registers: a
+// record by reference would be stored for a conic of one quad too.
 #[inline(never)]
 fn split_to(
-    b: Builder,
+    verbs_held: usize,
+    points_held: usize,
+    places: f32x4,
     verbs: &mut [u8],
     points: &mut [f32],
     ends: f32x4,
@@ -107,8 +144,18 @@ fn split_to(
     weight: f32,
 ) -> Result<Written, BuildError>
     requires { flat_of (conic_in ends ctrl weight) ≡ false }
-    ensures { conic_outcome_of result verbs.new points.new ≡ attempt (state b verbs.old points.old) (opening (is_empty b) ++ lowered_of (Lowered.Curve (conic_in ends ctrl weight))) }
+    ensures { (b : Builder) → b ≡ builder_at verbs_held points_held (point_in places 0) (point_in places 2) → conic_outcome_of result verbs.new points.new ≡ attempt (state b verbs.old points.old) (opening (is_empty b) ++ lowered_of (Lowered.Curve (conic_in ends ctrl weight))) }
 {
+    let [start_x, start_y, pen_x, pen_y] = places.to_array();
+    let b = Builder {
+        verbs: verbs_held,
+        points: points_held,
+        start: Point {
+            x: start_x,
+            y: start_y,
+        },
+        pen: Point { x: pen_x, y: pen_y },
+    };
     let l = Lowered::Curve(conic::of_vectors(ends, ctrl, weight));
     calls::admit_lowered(b, verbs.len(), points.len(), l)?;
     let o = ensure_started(b, verbs, points);
@@ -129,12 +176,15 @@ pub fn conic_to(
     match conic::lower(calls::conic_from(b, ctrl, to, weight)) {
         Lowered::Line(p) => calls::with_word(add(b, verbs, points, Element::Line(p)), 0),
         Lowered::Curve(c) => {
-            if conic::is_flat(c) {
-                let quad = Element::Quad(c.ctrl, c.to);
-                return calls::with_word(add(b, verbs, points, quad), 1);
-            }
             let ends = conic::ends(c);
-            split_to(b, verbs, points, ends, conic::ctrl(c), c.weight)
+            let ctrl = conic::ctrl(c);
+            if conic::is_flat(c) {
+                return calls::with_word(single_to(b, verbs, points, ends, ctrl), 1);
+            }
+            let places = f32x4::from_array([b.start.x, b.start.y, b.pen.x, b.pen.y]);
+            split_to(
+                b.verbs, b.points, places, verbs, points, ends, ctrl, c.weight,
+            )
         }
     }
 }

@@ -26,7 +26,7 @@ use Rattle.stream.specs.declared.Element.TheVariants.{Quad}
 use lib.Seq.{paste}
 use Rattle.std.proofs.lemmas.List.{length-replicate}
 use Rattle.std.proofs.lemmas.List.Edits.{paste_all}
-use Rattle.stream.specs.Stream.{put, all_floats, State, state, push, push_all, advance_of, Fits}
+use Rattle.stream.specs.Stream.{put, all_floats, state, push, push_all, advance_of, Fits}
 use Rattle.stream.proofs.Put.{put_one, put-after, length-put}
 use Rattle.stream.proofs.Pushed.{push_all-verbs, push-all_points, push_all-start, push_all-pen}
 use Rattle.stream.proofs.Past.{push_all_puts}
@@ -111,10 +111,10 @@ pub one-wrote : (ps : List Piece) (c : Conic) (start at word : ℕ) {fs gs : Lis
 one-wrote ps c start at word {fs} h e = let m = h.many in let b = h.word in record { points = e ∙ ap (put fs (2 * at)) (sym h.floats); end = omega arith; bits = omega arith }
 
 -- a quad is written in the same way wherever start and pen are
-pub quad_anywhere : (v p : ℕ) (f q ctrl to : Point) (vs : List ℕ) (fs : List Float) {r : Builder} {ws : List ℕ} {gs : List Float} → state r ws gs ≡ push (state (builder_at v p f q) vs fs) (Quad ctrl to)
-    → (from pen : Point) → state (builder_at (v + 1) (p + 2) from to) ws gs ≡ push (state (builder_at v p from pen) vs fs) (Quad ctrl to)
+pub quad_anywhere : (v p : ℕ) (ctrl to : Point) (vs : List ℕ) (fs : List Float) {gs : List Float} → v < length vs → gs ≡ put fs (2 * p) (ctrl.x ∷ ctrl.y ∷ to.x ∷ to.y ∷ [])
+    → (from pen : Point) → state (builder_at (v + 1) (p + 2) from to) (set vs v 2) gs ≡ push (state (builder_at v p from pen) vs fs) (Quad ctrl to)
 unfolding push advance_of
-quad_anywhere v p f q ctrl to vs fs e from pen = ap₂ (state (builder_at (v + 1) (p + 2) from to)) (ap (λ (x : State). x.verbs) e) (ap (λ (x : State). x.floats) e)
+quad_anywhere v p ctrl to vs fs h e from pen = ap₂ (state (builder_at (v + 1) (p + 2) from to)) (put_one vs v 2 h) e
 
 -- ---- both halves
 

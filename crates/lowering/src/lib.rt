@@ -46,20 +46,6 @@ struct Progress {
     word: u64,
 }
 
-// A conic's only quad, as verb v and with its points from p on.
-fn push_piece(v: usize, p: usize, verbs: &mut [u8], points: &mut [f32], ctrl: Point, to: Point)
-    requires { (v < length verbs.old) × (2 * (p + 2) ≤ length points.old) }
-    ensures { (from pen : Point) → state (builder_at (v + 1) (p + 2) from to) verbs.new points.new ≡ push (state (builder_at v p from pen) verbs.old points.old) (Element.Quad ctrl to) }
-{
-    let b = Builder {
-        verbs: v,
-        points: p,
-        start: ctrl,
-        pen: ctrl,
-    };
-    stream::push(b, verbs, points, Element::Quad(ctrl, to));
-}
-
 // The points of a quad with the first point of `ctrl` and to the second one of `ends`, from point `at` on.
 #[inline(always)]
 fn put_quad(points: &mut [f32], at: usize, ctrl: f32x4, ends: f32x4)
@@ -72,6 +58,17 @@ fn put_quad(points: &mut [f32], at: usize, ctrl: f32x4, ends: f32x4)
     points[i + 1] = y1;
     points[i + 2] = x2;
     points[i + 3] = y2;
+}
+
+// A conic's only quad, as verb v and with its points from p on. The conic has the first point of `ctrl` and ends at the second one
+// of `ends`.
+#[inline(always)]
+fn push_piece(v: usize, p: usize, verbs: &mut [u8], points: &mut [f32], ends: f32x4, ctrl: f32x4)
+    requires { (v < length verbs.old) × (2 * (p + 2) ≤ length points.old) }
+    ensures { (from pen : Point) → state (builder_at (v + 1) (p + 2) from (point_in ends 2)) verbs.new points.new ≡ push (state (builder_at v p from pen) verbs.old points.old) (Element.Quad (point_in ctrl 0) (point_in ends 2)) }
+{
+    verbs[v] = 2;
+    put_quad(points, p, ctrl, ends);
 }
 
 // The quads of a conic, their points from point `at` on, and the bits where they start; `one` tells whether it is one.
@@ -219,7 +216,7 @@ fn push_quads(
 {
     let c = conic::of_vectors(ends, ctrl, w);
     if conic::is_flat(c) {
-        push_piece(v, p, verbs, points, c.ctrl, c.to);
+        push_piece(v, p, verbs, points, ends, ctrl);
         return 1;
     }
     push_curve(v, p, verbs, points, ends, ctrl, w).count
@@ -237,6 +234,23 @@ fn after_quads(b: Builder, count: usize, to: Point) -> Builder
         start: start,
         pen: to,
     }
+}
+
+// A conic's only quad behind the held elements, for which there is room. The conic comes as vectors: the points of an element would
+// be packed into words and taken apart again.
+pub fn push_single(
+    b: Builder,
+    verbs: &mut [u8],
+    points: &mut [f32],
+    ends: f32x4,
+    ctrl: f32x4,
+) -> Builder
+    requires { (b.verbs < length verbs.old) × (2 * (b.points + 2) ≤ length points.old) }
+    ensures { state result verbs.new points.new ≡ push (state b verbs.old points.old) (Element.Quad (point_in ctrl 0) (point_in ends 2)) }
+{
+    push_piece(b.verbs, b.points, verbs, points, ends, ctrl);
+    let [_, _, x, y] = ends.to_array();
+    after_quads(b, 1, Point { x, y })
 }
 
 // The quads of a conic that is more than one, behind the held elements, for which there is room, with their joint word.
