@@ -5,10 +5,14 @@ use mathlib.Core.List.{List}
 use Rattle.std.proofs.Math.Bool.{and-false}
 use Prim.Native.Nat.{ℕ, zero, suc, ◌<◌}
 use native.Mathlib.Omega.{arith}
-use lib.Ieee.{lt, le}
+use lib.Dec.{not_T}
+use lib.Ieee.{Float, lt, le}
+use lib.Ieee.Bits.{is_true, is_false}
+use Rattle.std.proofs.lemmas.Float as order
+use Rattle.ieee.proofs.Tests.{both}
 use lib.ListN.{get_or}
 use Rattle.geometry.specs.declared.Point.{Point}
-use Rattle.geometry.specs.Point.{add_of, sub_of, mul_of, div_of, abs_point, length_squared_of, distance_squared_of}
+use Rattle.geometry.specs.Point.{sub_of, div_of, abs_point, distance_squared_of}
 use Rattle.octant.specs.Binary32.{zero as zero32}
 use Rattle.octant.specs.Octant.{point}
 use Rattle.octant.specs.declared.Octant.{Octant}
@@ -20,42 +24,64 @@ use Rattle.containment.specs.Arcs.{beyond_circle, arcs_of, beyond_arcs, misses_o
 use Rattle.containment.specs.declared.Arcs.{Arcs}
 
 -- ---- of Bools
-by_circle : (a b c d e s : Bool) → not (a || b || c || d || e) ≡ true → cond (a || b || c) true (cond d s e) ≡ false
-by_circle true b c d e s h = absurd (true≢false (sym h))
-by_circle false true c d e s h = absurd (true≢false (sym h))
-by_circle false false true d e s h = absurd (true≢false (sym h))
-by_circle false false false true e s h = absurd (true≢false (sym h))
-by_circle false false false false true s h = absurd (true≢false (sym h))
-by_circle false false false false false s h = refl
+by_circle : (a b c d e s : Bool) → a ≡ false → b ≡ false → c ≡ false → d ≡ false → e ≡ false → cond (a || b || c) true (cond d s e) ≡ false
+by_circle a b c d e s f g h i j = rw (f, g, h, i, j) refl
 
 one_of_two : (t r a b : Bool) → (t ≡ true → a ≡ false) → (r ≡ true → b ≡ false) → (t || r) ≡ true → (a && b) ≡ false
 one_of_two true r a b f g h = ap (λ (x : Bool). x && b) (f refl)
 one_of_two false true a b f g h = ap (λ (x : Bool). a && x) (g refl) ∙ and-false a
 one_of_two false false a b f g h = absurd (true≢false (sym h))
 
-by_kind : (s b w r : Bool) → (b ≡ true → r ≡ false) → (not s && b) ≡ true → cond s w r ≡ false
+second_of : (s b : Bool) → (not s && b) ≡ true → b ≡ true
+second_of true b h = absurd (true≢false (sym h))
+second_of false b h = h
+
+by_kind : (s b w r : Bool) → r ≡ false → (not s && b) ≡ true → cond s w r ≡ false
 by_kind true b w r f h = absurd (true≢false (sym h))
-by_kind false b w r f h = f h
+by_kind false b w r f h = f
 
 by_side : (o b i : Bool) → (b ≡ true → i ≡ false) → (not o && b) ≡ true → cond o true i ≡ false
 by_side true b i f h = absurd (true≢false (sym h))
 by_side false b i f h = f h
 
+-- ---- of floats in order
+not_below : (x y : Float) → le x y ≡ true → lt y x ≡ false
+not_below x y e = is_false (lt y x) (not_T (lt y x) (λ t. order.lt_irrefl y (order.lt_of_lt_of_le y x y t (order.T_from_true (le x y) e))))
+
+not_above : (x y : Float) → lt x y ≡ true → le y x ≡ false
+not_above x y e = is_false (le y x) (not_T (le y x) (λ t. order.lt_irrefl x (order.lt_of_lt_of_le x y x (order.T_from_true (lt x y) e) t)))
+
+less : (x y : Float) → lt x y ≡ true → le x y ≡ true
+less x y e = is_true (le x y) (order.le_of_lt x y (order.T_from_true (lt x y) e))
+
+between : (x y z : Float) → le x y ≡ true → le y z ≡ true → le x z ≡ true
+between x y z e f = is_true (le x z) (order.le_trans x y z (order.T_from_true (le x y) e) (order.T_from_true (le y z) f))
+
 -- ---- of one corner
 octant_beyond : (o : Octant) (p : Point)
-    → beyond_circle p.x p.y o.circle_start.x (length_squared_of (sub_of p o.circle_center)) (distance_squared_of o.circle_start o.circle_center) ≡ true
+    → beyond_circle p.x p.y o.circle_start.x (distance_squared_of p o.circle_center) (distance_squared_of o.circle_start o.circle_center) ≡ true
     → octant_contains_of o p ≡ false
-unfolding beyond_circle octant_contains_of
-octant_beyond o p h = by_circle (lt p.x zero32) (lt p.y zero32) (lt p.y p.x) (le p.x o.circle_start.x) (lt (length_squared_of (sub_of p o.circle_center)) (distance_squared_of o.circle_start o.circle_center)) _ h
+unfolding beyond_circle octant_contains_of distance_squared_of
+octant_beyond o p h =
+    let radius = distance_squared_of o.circle_start o.circle_center in
+    let d = distance_squared_of p o.circle_center in
+    let t = both (le zero32 p.x && lt o.circle_start.x p.x) (le p.x p.y && lt radius d) h in
+    let x = both (le zero32 p.x) (lt o.circle_start.x p.x) t.0 in
+    let y = both (le p.x p.y) (lt radius d) t.1 in
+    by_circle (lt p.x zero32) (lt p.y zero32) (lt p.y p.x) (le p.x o.circle_start.x) (lt d radius) _
+    (not_below zero32 p.x x.0) (not_below zero32 p.y (between zero32 p.x p.y x.0 y.0)) (not_below p.x p.y y.0) (not_above o.circle_start.x p.x x.1) (not_below radius d (less radius d y.1))
+
+pub round_beyond : (q : Quadrant) (n : Point) → beyond_arcs (arcs_of q) n ≡ true → round_contains q n ≡ false
+unfolding arcs_of beyond_arcs sub_of round_contains
+round_beyond q n h =
+    one_of_two _ _ _ _
+    (octant_beyond q.top (sub_of n q.top.offset))
+    (octant_beyond q.right (point (sub_of n q.right.offset).y (sub_of n q.right.offset).x))
+    (second_of (square_corner q) _ h)
 
 norm_beyond : (q : Quadrant) (n : Point) → beyond_arcs (arcs_of q) n ≡ true → norm_contains q n ≡ false
-unfolding arcs_of beyond_arcs add_of mul_of sub_of length_squared_of round_contains norm_contains
-norm_beyond q n h =
-    by_kind (square_corner q) _ _ _
-    (one_of_two _ _ _ _
-    (octant_beyond q.top (sub_of n q.top.offset))
-    (octant_beyond q.right (point (sub_of n q.right.offset).y (sub_of n q.right.offset).x)))
-    h
+unfolding arcs_of beyond_arcs norm_contains
+norm_beyond q n h = by_kind (square_corner q) _ _ _ (round_beyond q n h) h
 
 corner-beyond : (q : Quadrant) (same : Bool) (p : Point) → misses_of (arcs_of q) same p ≡ true → corner_contains_of q p (not same) ≡ false
 unfolding misses_of corner_contains_of arcs_of

@@ -3,4 +3,5 @@ pub mod SquareCorner
 pub mod Folding
 pub mod Asking
 pub mod Beyond
+pub mod Tested
 pub mod Examples

@@ -1,8 +1,9 @@
 -- A quick test that tells most points outside a corner: those beyond one of its circular arcs. Cited by the contracts of inner functions. Definitions only.
-use Rattle.std.specs.Prelude.{Bool, cond, not, ◌&&◌, ◌||◌, List, [], ◌∷◌, Float}
-use Rattle.std.specs.Float.Ieee.{lt, le}
+use Rattle.std.specs.Prelude.{Bool, cond, not, ◌&&◌, ◌||◌, List, [], ◌∷◌, ℕ, ◌+◌, get_or, Float}
+use Rattle.std.specs.Float.{binary32, nan}
+use Rattle.std.specs.Float.Ieee.{add, sub, mul, lt, le}
 use Rattle.geometry.specs.declared.Point.{Point}
-use Rattle.geometry.specs.Point.{add_of, sub_of, mul_of, div_of, abs_point, distance_squared_of}
+use Rattle.geometry.specs.Point.{sub_of, div_of, abs_point, distance_squared_of}
 use Rattle.octant.specs.Binary32.{zero}
 use Rattle.octant.specs.Octant.{point}
 use Rattle.quadrant.specs.declared.Quadrant.{Quadrant}
@@ -10,11 +11,18 @@ use Rattle.shape.specs.declared.RoundSuperellipse.{RoundSuperellipse}
 use Rattle.quadrant.specs.Quadrant.{square_corner}
 use Rattle.containment.specs.declared.Arcs.{Arcs}
 
--- where `octant_contains_of` answers false by the circle: in the octant, past the circle's start, and not inside the circle; d is the squared distance from its center
+-- where `octant_contains_of` answers false by the circle: in the octant, past the circle's start, and outside the circle; d is the squared distance from its center
 unfoldable pub beyond_circle : Float → Float → Float → Float → Float → Bool
-beyond_circle x y start d radius = not (lt x zero || lt y zero || lt y x || le x start || lt d radius)
+beyond_circle x y start d radius = le zero x && lt start x && (le x y && lt radius d)
 
--- what the arcs of a quadrant ask of a point: in each pair the top octant's number, then the right one's
+-- of two points in one vector from two in another, each distance as the second number of a pair: the first is the sum the other way round
+unfoldable pub squared_distances : List Float → List Float → List Float
+squared_distances p q =
+    let d = λ (k : ℕ). sub binary32 (get_or p k nan) (get_or q k nan) in
+    let s = λ (k l : ℕ). add binary32 (mul binary32 (d k) (d k)) (mul binary32 (d l) (d l)) in
+    s 1 0 ∷ s 0 1 ∷ s 3 2 ∷ s 2 3 ∷ []
+
+-- what the arcs of a quadrant ask of a point: of the top octant, then of the right one, whose x and y are exchanged
 unfoldable pub arcs_of : Quadrant → Arcs
 arcs_of q =
     let top = q.top in
@@ -22,24 +30,20 @@ arcs_of q =
     record {
       offset = q.offset;
       signed_scale = q.signed_scale;
-      from_x = point top.offset.x right.offset.y;
-      from_y = point top.offset.y right.offset.x;
-      start = point top.circle_start.x right.circle_start.x;
-      center_x = point top.circle_center.x right.circle_center.x;
-      center_y = point top.circle_center.y right.circle_center.y;
-      radius = point (distance_squared_of top.circle_start top.circle_center) (distance_squared_of right.circle_start right.circle_center);
+      from = top.offset.x ∷ top.offset.y ∷ right.offset.y ∷ right.offset.x ∷ [];
+      center = top.circle_center.x ∷ top.circle_center.y ∷ right.circle_center.x ∷ right.circle_center.y ∷ [];
+      bounds = top.circle_start.x ∷ distance_squared_of top.circle_start top.circle_center ∷ right.circle_start.x ∷ distance_squared_of right.circle_start right.circle_center ∷ [];
       is_round = not (square_corner q);
     }
 
--- of a point in the quadrant's own space
+-- of a point in the quadrant's own space, for the octant whose numbers stand from k on
+abbrev pub beyond_arc : List Float → List Float → List Float → ℕ → Point → Bool
+beyond_arc from center bounds k n =
+    let p = sub_of n (point (get_or from k nan) (get_or from (k + 1) nan)) in
+    beyond_circle p.x p.y (get_or bounds k nan) (distance_squared_of p (point (get_or center k nan) (get_or center (k + 1) nan))) (get_or bounds (k + 1) nan)
+
 unfoldable pub beyond_arcs : Arcs → Point → Bool
-beyond_arcs a n =
-    let x = sub_of n a.from_x in
-    let y = sub_of (point n.y n.x) a.from_y in
-    let dx = sub_of x a.center_x in
-    let dy = sub_of y a.center_y in
-    let d = add_of (mul_of dx dx) (mul_of dy dy) in
-    a.is_round && (beyond_circle x.x y.x a.start.x d.x a.radius.x || beyond_circle x.y y.y a.start.y d.y a.radius.y)
+beyond_arcs a n = a.is_round && (beyond_arc a.from a.center a.bounds 0 n || beyond_arc a.from a.center a.bounds 2 (point n.y n.x))
 
 -- of any point: mirrored into the quadrant where one describes all four, else one of the quadrant's own
 unfoldable pub misses_of : Arcs → Bool → Point → Bool

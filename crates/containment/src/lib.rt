@@ -10,12 +10,13 @@ ghost use Rattle.octant.specs.Binary32.{zero};
 ghost use Rattle.octant.specs.Octant.{point};
 ghost use Rattle.containment.specs.Contains.{octant_contains_of, within, square_contains, round_contains, norm_contains, corner_contains_of, contains_of};
 ghost use Rattle.containment.specs.Parts.{in_superellipse, asks_powers};
-ghost use Rattle.containment.specs.Arcs.{beyond_circle, arcs_of, beyond_arcs, misses_of, arcs_in};
+ghost use Rattle.containment.specs.Arcs.{squared_distances, beyond_arc, arcs_of, beyond_arcs, misses_of, arcs_in};
 
 use geometry::Point;
 use octant::Octant;
 use quadrant::Quadrant;
 use shape::RoundSuperellipse;
+use std::simd::prelude::*;
 
 // Whether a point is inside a superellipse of the half-extent a and the degree n, its border included. Its floats come
 // one by one: a point would be packed into one word and taken apart again.
@@ -108,7 +109,7 @@ fn round_contains(param: Quadrant, norm_point: Point) -> bool
 }
 
 #[tactic(auto, unfolding(crate::specs::Contains::norm_contains))]
-pub fn norm_contains(param: Quadrant, norm_point: Point) -> bool
+fn norm_contains(param: Quadrant, norm_point: Point) -> bool
     ensures { result ≡ norm_contains param norm_point }
 {
     if param.is_square() {
@@ -166,58 +167,54 @@ pub fn contains(shape: RoundSuperellipse, p: Point) -> bool
         && corner_contains(shape.top_left, p, true)
 }
 
-// What a corner's circular arcs ask of a point, for a quick test of many points: most points outside lie beyond an arc.
-// In each pair x is the top octant's number and y the right one's, so that both are tested in one go.
+// What a corner's circular arcs ask of a point, for a quick test: most points outside lie beyond an arc. A vector's first two
+// numbers are the top octant's and its last two the right one's, whose x and y are exchanged, so that both are tested in one go.
 #[derive(Clone, Copy)]
 pub struct Arcs {
     pub offset: Point,
     pub signed_scale: Point,
-    // The octants' offsets, the right one's with x and y exchanged.
-    pub from_x: Point,
-    pub from_y: Point,
-    pub start: Point,
-    pub center_x: Point,
-    pub center_y: Point,
-    // Squared.
-    pub radius: Point,
-    // A flag, and no enum round the points: `touch` takes the offset of a square corner too, and the flag is one of the tests that
+    // The octants' offsets.
+    pub from: f32x4,
+    pub center: f32x4,
+    // Where the circle starts, and its squared radius.
+    pub bounds: f32x4,
+    // A flag, and no enum round the vectors: `touch` takes the offset of a square corner too, and the flag is one of the tests that
     // `is_beyond_arcs` makes with no branch between them.
     pub is_round: bool,
 }
 
-#[tactic(auto, unfolding(crate::specs::Arcs::arcs_of))]
+// The squared distances of two points from two others, each as the second number of a pair.
+fn squared_distances(p: f32x4, q: f32x4) -> f32x4
+    ensures { result ≡ squared_distances p q }
+{
+    let apart = p - q;
+    let squares = apart * apart;
+    squares.swizzle([1, 0, 3, 2]) + squares
+}
+
 fn arcs_of(q: Quadrant) -> Arcs
     ensures { result ≡ arcs_of q }
 {
-    let offset = q.offset;
-    let signed_scale = q.signed_scale;
+    let top = q.top;
+    let right = q.right;
+    let start = f32x4::from_array([
+        top.circle_start.x,
+        top.circle_start.y,
+        right.circle_start.x,
+        right.circle_start.y,
+    ]);
+    let center = f32x4::from_array([
+        top.circle_center.x,
+        top.circle_center.y,
+        right.circle_center.x,
+        right.circle_center.y,
+    ]);
     Arcs {
-        offset,
-        signed_scale,
-        from_x: Point {
-            x: q.top.offset.x,
-            y: q.right.offset.y,
-        },
-        from_y: Point {
-            x: q.top.offset.y,
-            y: q.right.offset.x,
-        },
-        start: Point {
-            x: q.top.circle_start.x,
-            y: q.right.circle_start.x,
-        },
-        center_x: Point {
-            x: q.top.circle_center.x,
-            y: q.right.circle_center.x,
-        },
-        center_y: Point {
-            x: q.top.circle_center.y,
-            y: q.right.circle_center.y,
-        },
-        radius: Point {
-            x: q.top.circle_start.distance_squared(q.top.circle_center),
-            y: q.right.circle_start.distance_squared(q.right.circle_center),
-        },
+        offset: q.offset,
+        signed_scale: q.signed_scale,
+        from: f32x4::from_array([top.offset.x, top.offset.y, right.offset.y, right.offset.x]),
+        center,
+        bounds: start.shuffle(squared_distances(start, center), [0, 5, 2, 7]),
         is_round: !q.is_square(),
     }
 }
@@ -234,26 +231,32 @@ pub fn all_arcs(shape: RoundSuperellipse) -> [Arcs; 4]
     [top_right, bottom_right, top_left, bottom_left]
 }
 
-// All comparisons are made, with no branch between them: which of them decides is hard to foresee.
-#[tactic(auto, unfolding(crate::specs::Arcs::beyond_circle))]
-fn is_beyond_circle(x: f32, y: f32, start: f32, d: f32, radius: f32) -> bool
-    ensures { result ≡ beyond_circle x y start d radius }
+// Whether a point in a corner's own space lies beyond an arc of one of its octants, by the bits of a number: which of the comparisons
+// decides is hard to foresee.
+fn is_beyond_either(from: f32x4, center: f32x4, bounds: f32x4, n: Point) -> bool
+    ensures { result ≡ (beyond_arc from center bounds 0 n || beyond_arc from center bounds 2 (point n.y n.x)) }
 {
-    !((x < 0.0) | (y < 0.0) | (y < x) | (x <= start) | (d < radius))
+    let own = f32x4::from_array([n.x, n.y, n.y, n.x]) - from;
+    let d = squared_distances(own, center);
+    let ordered = f32x4::splat(0.0).shuffle(own, [0, 4, 2, 6]).simd_le(own);
+    let past = bounds.simd_lt(own.shuffle(d, [0, 5, 2, 7]));
+    // Bits 0 and 1 are both set where n lies beyond the top octant's arc, bits 2 and 3 where beyond the right one's.
+    let bits = (ordered & past).to_bitmask();
+    bits & (bits >> 1) & 5 != 0
 }
 
 #[tactic(auto, unfolding(crate::specs::Arcs::beyond_arcs))]
 fn is_beyond_arcs(a: Arcs, n: Point) -> bool
     ensures { result ≡ beyond_arcs a n }
 {
-    let x = n - a.from_x;
-    let y = Point { x: n.y, y: n.x } - a.from_y;
-    let dx = x - a.center_x;
-    let dy = y - a.center_y;
-    let d = dx * dx + dy * dy;
-    let top = is_beyond_circle(x.x, y.x, a.start.x, d.x, a.radius.x);
-    let right = is_beyond_circle(x.y, y.y, a.start.y, d.y, a.radius.y);
-    a.is_round & (top | right)
+    a.is_round & is_beyond_either(a.from, a.center, a.bounds, n)
+}
+
+// The same of a corner whose numbers were not taken out before: a round corner does not hold such a point.
+pub fn is_beyond(q: Quadrant, n: Point) -> bool
+    ensures { result ≡ beyond_arcs (arcs_of q) n }
+{
+    is_beyond_arcs(arcs_of(q), n)
 }
 
 // Whether p lies beyond an arc. Then the corner does not contain it.

@@ -164,6 +164,19 @@ fn octants_hold(shape: &[f32; 89], at: usize, n: Point) -> bool
     false
 }
 
+// The same. Most points outside lie beyond one of the corner's arcs, which a test without branches tells: which of the tests of the
+// octants decides is hard to foresee.
+#[inline(always)]
+fn round_holds(shape: &[f32; 89], at: usize, n: Point) -> bool
+    requires { at + 22 ≤ 89 }
+    ensures { result ≡ round_contains (quadrant_at shape.now at) n }
+{
+    if containment::is_beyond(quadrant_at(shape, at), n) {
+        return false;
+    }
+    octants_hold(shape, at, n)
+}
+
 // Whether the corner whose floats begin at `at` holds a point in its own space. Compiled apart, it reads the floats that it
 // needs, and no record is copied for it.
 #[inline(never)]
@@ -175,7 +188,7 @@ fn norm_holds(shape: &[f32; 89], at: usize, x: f32, y: f32) -> bool
     if corner.is_square() {
         return containment::square_contains(corner, Point { x, y });
     }
-    octants_hold(shape, at, Point { x, y })
+    round_holds(shape, at, Point { x, y })
 }
 
 // A point in the own space of the corner whose floats begin at `at`, and in that of the next.
@@ -223,7 +236,7 @@ fn same_holds(shape: &[f32; 89], p: Point) -> bool
     if corner.is_square() {
         return norm_holds(shape, 0, n.x, n.y);
     }
-    octants_hold(shape, 0, n)
+    round_holds(shape, 0, n)
 }
 
 // 1 where the shape contains the point, 0 where not.

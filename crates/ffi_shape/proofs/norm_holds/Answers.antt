@@ -15,4 +15,4 @@ pub returns-then-is_square : goal.returns-then-is_square
 returns-then-is_square c = square-asked _ _ _ _ _ c.quadrant_at-corner.ensures c.is_square.ensures c.if-is_square.true c.square_contains.ensures
 
 pub returns : goal.returns
-returns c = round-asked _ _ _ _ _ c.quadrant_at-corner.ensures c.is_square.ensures c.if-is_square.false c.octants_hold.ensures
+returns c = round-asked _ _ _ _ _ c.quadrant_at-corner.ensures c.is_square.ensures c.if-is_square.false c.round_holds.ensures

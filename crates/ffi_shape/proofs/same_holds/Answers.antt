@@ -11,5 +11,5 @@ returns-then-is_square c = c.norm_holds.ensures ∙ ap (norm_contains (quadrant_
 pub returns : goal.returns
 unfolding corner_contains_of
 returns c =
-    round-asked _ _ _ _ _ c.quadrant_at-corner.ensures c.is_square.ensures c.if-is_square.false c.octants_hold.ensures
+    round-asked _ _ _ _ _ c.quadrant_at-corner.ensures c.is_square.ensures c.if-is_square.false c.round_holds.ensures
     ∙ ap (norm_contains (quadrant_at c.args.shape.now 0)) (rw (c.abs-n.ensures, c.div.ensures, c.sub.ensures, c.quadrant_at-corner.ensures) refl)
