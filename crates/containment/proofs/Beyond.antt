@@ -5,9 +5,9 @@ use mathlib.Core.List.{List}
 use Rattle.std.proofs.Math.Bool.{and-false}
 use Prim.Native.Nat.{ℕ, zero, suc, ◌<◌}
 use native.Mathlib.Omega.{arith}
-use lib.Dec.{not_T}
+use lib.Dec.{T, not_T}
 use lib.Ieee.{Float, lt, le}
-use lib.Ieee.Bits.{is_true, is_false}
+use lib.Ieee.Bits.{is_false}
 use Rattle.std.proofs.lemmas.Float as order
 use Rattle.ieee.proofs.Tests.{both}
 use lib.ListN.{get_or}
@@ -45,17 +45,11 @@ by_side true b i f h = absurd (true≢false (sym h))
 by_side false b i f h = f h
 
 -- ---- of floats in order
-not_below : (x y : Float) → le x y ≡ true → lt y x ≡ false
-not_below x y e = is_false (lt y x) (not_T (lt y x) (λ t. order.lt_irrefl y (order.lt_of_lt_of_le y x y t (order.T_from_true (le x y) e))))
+not_below : (x y : Float) → T (le x y) → lt y x ≡ false
+not_below x y h = is_false (lt y x) (not_T (lt y x) (λ t. order.lt_irrefl y (order.lt_of_lt_of_le y x y t h)))
 
-not_above : (x y : Float) → lt x y ≡ true → le y x ≡ false
-not_above x y e = is_false (le y x) (not_T (le y x) (λ t. order.lt_irrefl x (order.lt_of_lt_of_le x y x (order.T_from_true (lt x y) e) t)))
-
-less : (x y : Float) → lt x y ≡ true → le x y ≡ true
-less x y e = is_true (le x y) (order.le_of_lt x y (order.T_from_true (lt x y) e))
-
-between : (x y z : Float) → le x y ≡ true → le y z ≡ true → le x z ≡ true
-between x y z e f = is_true (le x z) (order.le_trans x y z (order.T_from_true (le x y) e) (order.T_from_true (le y z) f))
+not_above : (x y : Float) → T (lt x y) → le y x ≡ false
+not_above x y h = is_false (le y x) (not_T (le y x) (λ t. order.lt_irrefl x (order.lt_of_lt_of_le x y x h t)))
 
 -- ---- of one corner
 octant_beyond : (o : Octant) (p : Point)
@@ -68,8 +62,10 @@ octant_beyond o p h =
     let t = both (le zero32 p.x && lt o.circle_start.x p.x) (le p.x p.y && lt radius d) h in
     let x = both (le zero32 p.x) (lt o.circle_start.x p.x) t.0 in
     let y = both (le p.x p.y) (lt radius d) t.1 in
+    let x0 = order.T_from_true _ x.0 in
+    let y0 = order.T_from_true _ y.0 in
     by_circle (lt p.x zero32) (lt p.y zero32) (lt p.y p.x) (le p.x o.circle_start.x) (lt d radius) _
-    (not_below zero32 p.x x.0) (not_below zero32 p.y (between zero32 p.x p.y x.0 y.0)) (not_below p.x p.y y.0) (not_above o.circle_start.x p.x x.1) (not_below radius d (less radius d y.1))
+    (not_below zero32 p.x x0) (not_below zero32 p.y (order.le_trans zero32 p.x p.y x0 y0)) (not_below p.x p.y y0) (not_above o.circle_start.x p.x (order.T_from_true _ x.1)) (not_below radius d (order.le_of_lt radius d (order.T_from_true _ y.1)))
 
 pub round_beyond : (q : Quadrant) (n : Point) → beyond_arcs (arcs_of q) n ≡ true → round_contains q n ≡ false
 unfolding arcs_of beyond_arcs sub_of round_contains

@@ -1,6 +1,6 @@
 -- What the vectors of the quick test hold. Assumes nothing.
 use mathlib.Core.Path.{◌≡◌, refl, sym, ap₂, ◌∙◌}
-use mathlib.Core.Bool.{Bool, true, false, not, ◌&&◌, ◌||◌}
+use mathlib.Core.Bool.{Bool, true, false, cond, not, ◌&&◌, ◌||◌}
 use mathlib.Core.List.{List, [], ◌∷◌, ◌++◌, map}
 use Prim.Native.Nat.{ℕ, ◌/◌, ◌%◌, ◌^◌}
 use mir.Syntax.{w32}
@@ -9,7 +9,8 @@ use lib.Dec.{eqb}
 use lib.Lanes.{zip2, pick_l, mask_l, top}
 use lib.ListN.{length, replicate}
 use lib.Ieee.{Float, nan, binary32, add, sub, mul, lt, le}
-use Rattle.lanes.proofs.Masks.{mask}
+use Rattle.lanes.proofs.Masks.{mask, both_first}
+use Rattle.std.proofs.Math.Bool.{and-true, and-false}
 use Rattle.lanes.proofs.Places.{four_lanes}
 use Rattle.geometry.specs.declared.Point.{Point}
 use Rattle.geometry.specs.Point.{sub_of, distance_squared_of, length_squared_of}
@@ -53,11 +54,12 @@ pairs false false true false = refl
 pairs false false false true = refl
 pairs false false false false = refl
 
+swapped : (a b : Bool) → cond b a false ≡ (a && b)
+swapped a true = sym (and-true a)
+swapped a false = sym (and-false a)
+
 lane : (a b : Bool) → top 31 (bit_and (mask w32 a) (mask w32 b)) ≡ (a && b)
-lane true true = refl
-lane true false = refl
-lane false true = refl
-lane false false = refl
+lane a b = both_first a b ∙ swapped a b
 
 paired_lanes : (a b c d e f g h : Bool)
     → paired (mask_l (top 31 (bit_and (mask w32 a) (mask w32 b)) ∷ top 31 (bit_and (mask w32 c) (mask w32 d)) ∷ top 31 (bit_and (mask w32 e) (mask w32 f)) ∷ top 31 (bit_and (mask w32 g) (mask w32 h)) ∷ []) % 2 ^ 64)

@@ -11,7 +11,7 @@ use Rattle.shape.specs.declared.RoundSuperellipse.{RoundSuperellipse}
 use Rattle.quadrant.specs.Quadrant.{square_corner}
 use Rattle.containment.specs.declared.Arcs.{Arcs}
 
--- where `octant_contains_of` answers false by the circle: in the octant, past the circle's start, and outside the circle; d is the squared distance from its center
+-- where `octant_contains_of` is sure to answer false by the circle: in the octant, past the circle's start, and outside the circle; d is the squared distance from its center. A point on the circle is left to `octant_contains_of`, and so is every NaN.
 unfoldable pub beyond_circle : Float → Float → Float → Float → Float → Bool
 beyond_circle x y start d radius = le zero x && lt start x && (le x y && lt radius d)
 
