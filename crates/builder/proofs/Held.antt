@@ -4,7 +4,7 @@ use Prim.Native.Nat.{ℕ}
 use Rattle.std.proofs.lemmas.Bool.{ne_eqb}
 use Rattle.stream.specs.declared.Builder.{Builder}
 use Rattle.stream.specs.Stream.{State, is_empty, push_all}
-use Rattle.lowering.specs.Entries.{elements_of}
+use Rattle.conic_writer.specs.Entries.{elements_of}
 use Rattle.calls.specs.Calls.{opening, opened_need}
 
 pub need_held : (b : Builder) (v p : ℕ) → (b.verbs ≡ 0 → ⊥) → record { verbs = v; points = p } ≡ opened_need (is_empty b) v p

@@ -1,6 +1,6 @@
-// The six building calls: each takes the record by value and the two buffers lent, counts its need
-// before anything is written, and writes all or nothing. Record and buffers go side by side, and not as one struct: what
-// slices that were lent to a struct's fields hold after its last use is not known to the check (tried).
+//! The six building calls: each takes the record by value and the two buffers lent, counts its need
+//! before anything is written, and writes all or nothing. Record and buffers go side by side, and not as one struct: what
+//! slices that were lent to a struct's fields hold after its last use is not known to the check (tried).
 
 #![tactic(auto)]
 
@@ -8,18 +8,18 @@ ghost use Rattle.std.specs.Prelude.{◌≡◌, false, [], ◌∷◌, ◌++◌, �
 ghost use Rattle.conic.specs.Conic.{flat_of};
 ghost use Rattle.conic.specs.Vectors.{point_in, conic_in};
 ghost use Rattle.stream.specs.Stream.{state, is_empty, push_all};
-ghost use Rattle.lowering.specs.Entries.{plain, elements_of, lowered_of, builder_at};
+ghost use Rattle.conic_writer.specs.Entries.{plain, elements_of, lowered_of, builder_at};
 ghost use Rattle.calls.specs.Calls.{opening, attempt, outcome_of, conic_outcome_of, step};
 
 use calls::{BuildError, Call};
 use conic::Lowered;
 use geometry::Point;
-use lowering::Written;
+use conic_writer::Written;
 use std::simd::prelude::*;
 use stream::{Builder, Element, Need};
 
 // The opening move of a builder that is empty.
-#[tactic(auto, unfolding(lowering::specs::Entries::elements_of, stream::specs::Stream::push_all))]
+#[tactic(auto, unfolding(conic_writer::specs::Entries::elements_of, stream::specs::Stream::push_all))]
 fn ensure_started(b: Builder, verbs: &mut [u8], points: &mut [f32]) -> Builder
     requires { (b.verbs + (1 - b.verbs) ≤ length verbs.old) × (2 * (b.points + (1 - b.verbs)) ≤ length points.old) }
     ensures { state result verbs.new points.new ≡ push_all (state b verbs.old points.old) (elements_of (opening (is_empty b))) }
@@ -119,14 +119,14 @@ fn single_to(
     if b.verbs == 0 {
         calls::admit(b, verbs.len(), points.len(), calls::opened_need(b, 1, 2))?;
         let o = ensure_started(b, verbs, points);
-        return Ok(lowering::push_single(o, verbs, points, ends, ctrl));
+        return Ok(conic_writer::push_single(o, verbs, points, ends, ctrl));
     }
     let need = Need {
         verbs: 1,
         points: 2,
     };
     calls::admit(b, verbs.len(), points.len(), need)?;
-    Ok(lowering::push_single(b, verbs, points, ends, ctrl))
+    Ok(conic_writer::push_single(b, verbs, points, ends, ctrl))
 }
 
 // The quads of a conic that is more than one, behind the opening move of a builder that is empty. Compiled apart, since it
@@ -159,10 +159,10 @@ fn split_to(
     let l = Lowered::Curve(conic::of_vectors(ends, ctrl, weight));
     calls::admit_lowered(b, verbs.len(), points.len(), l)?;
     let o = ensure_started(b, verbs, points);
-    Ok(lowering::push_split(o, verbs, points, ends, ctrl, weight))
+    Ok(conic_writer::push_split(o, verbs, points, ends, ctrl, weight))
 }
 
-// A line and a single quad, which starts at bit 0, are elements by themselves.
+/// A line and a single quad, which starts at bit 0, are elements by themselves.
 pub fn conic_to(
     b: Builder,
     verbs: &mut [u8],
@@ -189,7 +189,7 @@ pub fn conic_to(
     }
 }
 
-// On an empty builder a close is accepted, and changes nothing.
+/// On an empty builder a close is accepted, and changes nothing.
 pub fn close(b: Builder, verbs: &mut [u8], points: &mut [f32]) -> Result<Builder, BuildError>
     ensures { outcome_of result verbs.new points.new ≡ step (state b verbs.old points.old) Call.Close }
 {

@@ -1,4 +1,4 @@
 -- Every list of the seven building calls.
 pub mod Six
 pub mod Seven
-pub mod Demand3
+pub mod EveryList

@@ -3,15 +3,15 @@ use mathlib.Core.Path.{◌≡◌, refl}
 use mathlib.Core.Bool.{true}
 use Rattle.geometry.specs.declared.Point.{Point}
 use Rattle.stream.specs.Stream.{State, is_empty}
-use Rattle.lowering.specs.Entries.{elements_of}
+use Rattle.conic_writer.specs.Entries.{elements_of}
 use Rattle.calls.specs.Calls.{attempt}
 use Rattle.outline.specs.declared.BuildingCall.{BuildingCall}
 use Rattle.outline.specs.declared.BuildingCall.TheVariants.{MoveTo, LineTo, QuadTo, ConicTo, CubicTo, Close, AddTo}
-use Rattle.outline.specs.Step.{entries_of, worded, step}
-use Rattle.lists.specs.Lists.{Opens, said, GivenByEntries}
+use Rattle.outline.specs.Step.{entries_of, answers_word, step}
+use Rattle.book.specs.Lists.{Opens, said, GivenByEntries}
 use Rattle.building.proofs.Six.{six_step, six_opens, six_no_pen, outline_opens}
 
-seven-given : (s : State) (c : BuildingCall) → step s c ≡ said (worded c) (attempt s (entries_of (is_empty s.builder) s.builder.pen c))
+seven-given : (s : State) (c : BuildingCall) → step s c ≡ said (answers_word c) (attempt s (entries_of (is_empty s.builder) s.builder.pen c))
 unfolding step entries_of
 seven-given s (MoveTo a) = six_step s _
 seven-given s (LineTo a) = six_step s _
@@ -41,5 +41,5 @@ seven-opens (CubicTo a b c) p = six_opens _ p
 seven-opens Close p = six_opens _ p
 seven-opens (AddTo shape) p = outline_opens shape
 
-pub seven : GivenByEntries step entries_of worded
+pub seven : GivenByEntries step entries_of answers_word
 seven = record { given = seven-given; no_pen = seven_no_pen; opens = seven-opens }

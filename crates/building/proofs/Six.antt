@@ -6,15 +6,15 @@ use Rattle.geometry.specs.declared.Point.{Point}
 use lib.Ieee.{Float}
 use Rattle.conic.specs.Conic.{lower_of}
 use Rattle.stream.specs.Stream.{State, origin, is_empty, start_after, pen_after}
-use Rattle.lowering.specs.Entries.{Entry, elements_of, pieces_in, joint_word, lowered_of}
+use Rattle.conic_writer.specs.Entries.{Entry, elements_of, pieces_in, joint_word, lowered_of}
 use Rattle.calls.specs.declared.Call.{Call}
 use Rattle.calls.specs.declared.Call.TheVariants as call
 use Rattle.calls.specs.Calls.{opening, conic_from, entries_of, attempt, step}
 use Rattle.shape.specs.declared.RoundSuperellipse.{RoundSuperellipse}
-use Rattle.corners.specs.Calls.{calls_in, outline_calls}
-use Rattle.contour.specs.Entries.{entries_along, outline_entries}
-use Rattle.contour.proofs.Conics.{conic_adds}
-use Rattle.lists.specs.Lists.{Opens}
+use Rattle.outline_corners.specs.Calls.{calls_in, outline_calls}
+use Rattle.outline_need.specs.Entries.{entries_along, outline_entries}
+use Rattle.outline_need.proofs.Conics.{conic_adds}
+use Rattle.book.specs.Lists.{Opens}
 
 -- a step attempts the call's entries
 pub six_step : (s : State) (c : Call) → step s c ≡ attempt s (entries_of (is_empty s.builder) s.builder.pen c)

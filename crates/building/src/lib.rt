@@ -1,4 +1,4 @@
-// A building call given as a value, so that the theorem about every list of them (specs/Demand3.antt) is about the code that runs.
+//! A building call given as a value, so that the theorem about every list of them (specs/Faithful.antt) is about the code that runs.
 
 #![tactic(auto)]
 
@@ -8,11 +8,11 @@ ghost use Rattle.calls.specs.Calls.{conic_outcome_of};
 ghost use Rattle.outline.specs.Step.{step};
 
 use calls::BuildError;
-use lowering::Written;
+use conic_writer::Written;
 use outline::BuildingCall;
 use stream::Builder;
 
-// Answers as the call does; the joint word is 0 where the call has none.
+/// Answers as the call does; the joint word is 0 where the call has none.
 pub fn apply(
     b: Builder,
     verbs: &mut [u8],

@@ -11,29 +11,29 @@ use Rattle.std.proofs.Common.{Result, Ok, Err}
 use Rattle.stream.specs.declared.Builder.{Builder}
 use Rattle.stream.specs.declared.Need.{Need}
 use Rattle.stream.specs.Stream.{State, bad_record, has_room, bad_state, room_for, need_of, push_all}
-use Rattle.lowering.specs.declared.Written.{Written}
-use Rattle.lowering.specs.Entries.{Entry, elements_of, joint_word}
+use Rattle.conic_writer.specs.declared.Written.{Written}
+use Rattle.conic_writer.specs.Entries.{Entry, elements_of, joint_word}
 use Rattle.calls.specs.declared.BuildError.{BuildError}
 use Rattle.calls.specs.declared.BuildError.TheVariants.{BadRecord, NoRoom}
 use Rattle.calls.specs.Calls.{outcome, attempt, admit_of, refusal_of, outcome_of, conic_outcome_of}
 
 -- what holds where a need is admitted
-pub record Admitted (b : Builder) (vn fn : ℕ) (n : Need) : Type 0 where
-  pub good : bad_record b vn fn ≡ false
-  pub room : has_room b vn fn n ≡ true
+pub record Admitted (b : Builder) (verb_room float_room : ℕ) (n : Need) : Type 0 where
+  pub good : bad_record b verb_room float_room ≡ false
+  pub room : has_room b verb_room float_room n ≡ true
 
 -- an answer by what is asked
 abbrev decided : Bool → Bool → Builder → Result ⊤ BuildError
 decided p q b = cond p (Err (BadRecord b)) (cond q (Ok tt) (Err (NoRoom b)))
 
-admitted_go : (b : Builder) (x : ⊤) (vn fn : ℕ) (n : Need) (p q : Bool) → bad_record b vn fn ≡ p → has_room b vn fn n ≡ q → decided p q b ≡ Ok x → Admitted b vn fn n
-admitted_go b x vn fn n true q ep eq e = let z : ◌≡◌ {A = ℕ} 0 1 = cc in absurd (omega arith)
-admitted_go b x vn fn n false true ep eq e = record { good = ep; room = eq }
-admitted_go b x vn fn n false false ep eq e = let z : ◌≡◌ {A = ℕ} 0 1 = cc in absurd (omega arith)
+admitted_go : (b : Builder) (x : ⊤) (verb_room float_room : ℕ) (n : Need) (p q : Bool) → bad_record b verb_room float_room ≡ p → has_room b verb_room float_room n ≡ q → decided p q b ≡ Ok x → Admitted b verb_room float_room n
+admitted_go b x verb_room float_room n true q ep eq e = let z : ◌≡◌ {A = ℕ} 0 1 = cc in absurd (omega arith)
+admitted_go b x verb_room float_room n false true ep eq e = record { good = ep; room = eq }
+admitted_go b x verb_room float_room n false false ep eq e = let z : ◌≡◌ {A = ℕ} 0 1 = cc in absurd (omega arith)
 
-pub admitted : (b : Builder) (x : ⊤) (vn fn : ℕ) (n : Need) {r : Result ⊤ BuildError} → r ≡ admit_of b vn fn n → r ≡ Ok x → Admitted b vn fn n
+pub admitted : (b : Builder) (x : ⊤) (verb_room float_room : ℕ) (n : Need) {r : Result ⊤ BuildError} → r ≡ admit_of b verb_room float_room n → r ≡ Ok x → Admitted b verb_room float_room n
 unfolding admit_of
-admitted b x vn fn n e d = admitted_go b x vn fn n _ _ refl refl (sym e ∙ d)
+admitted b x verb_room float_room n e d = admitted_go b x verb_room float_room n _ _ refl refl (sym e ∙ d)
 
 module _ (s : State) (es : List Entry) where
   -- a call that was not admitted
@@ -60,5 +60,5 @@ pub conic_passed_on : (r : Result Written BuildError) (e : BuildError) (vs : Lis
 conic_passed_on r e vs fs h = ap (λ (x : Result Written BuildError). conic_outcome_of x vs fs) h
 
 -- a need that is that of es
-pub admitted_for : (b : Builder) (x : ⊤) (vn fn : ℕ) (n : Need) (es ds : List Entry) {r : Result ⊤ BuildError} → n ≡ need_of (elements_of es) → es ≡ ds → r ≡ admit_of b vn fn n → r ≡ Ok x → Admitted b vn fn (need_of (elements_of ds))
-admitted_for b x vn fn n es ds e f a d = admitted b x vn fn _ (a ∙ ap (admit_of b vn fn) (e ∙ ap (λ (l : List Entry). need_of (elements_of l)) f)) d
+pub admitted_for : (b : Builder) (x : ⊤) (verb_room float_room : ℕ) (n : Need) (es ds : List Entry) {r : Result ⊤ BuildError} → n ≡ need_of (elements_of es) → es ≡ ds → r ≡ admit_of b verb_room float_room n → r ≡ Ok x → Admitted b verb_room float_room (need_of (elements_of ds))
+admitted_for b x verb_room float_room n es ds e f a d = admitted b x verb_room float_room _ (a ∙ ap (admit_of b verb_room float_room) (e ∙ ap (λ (l : List Entry). need_of (elements_of l)) f)) d

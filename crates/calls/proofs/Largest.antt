@@ -17,8 +17,8 @@ use Rattle.stream.specs.declared.Builder.{Builder}
 use Rattle.stream.specs.declared.Need.{Need}
 use Rattle.stream.specs.Stream.{has_room, need_of}
 use Rattle.stream.proofs.Tests.{and_left, and_right}
-use Rattle.lowering.specs.Entries.{elements_of, lowered_of}
-use Rattle.lowering.proofs.Entries.{lowered_line, lowered_curve}
+use Rattle.conic_writer.specs.Entries.{elements_of, lowered_of}
+use Rattle.conic_writer.proofs.Entries.{lowered_line, lowered_curve}
 use Rattle.calls.specs.declared.BuildError.{BuildError}
 use Rattle.calls.specs.Calls.{opening, opened_need, admit_of}
 use Rattle.calls.proofs.Opening.{opened-need}
@@ -45,24 +45,24 @@ largest e (Curve c) =
     let few : length (pieces_of c) ≤ 64 = halve-few 6 c 0 in
     covered_by _ _ _ (opened-need e (lowered_of (Curve c)) (length (pieces_of c)) (2 * length (pieces_of c)) (sym h.many) (sym h.size)) (opened_covered e (length (pieces_of c)) (2 * length (pieces_of c)) 64 128 few (omega arith))
 
-room_covered : (b : Builder) (vn fn : ℕ) (n m : Need) → Covered n m → has_room b vn fn m ≡ true → has_room b vn fn n ≡ true
+room_covered : (b : Builder) (verb_room float_room : ℕ) (n m : Need) → Covered n m → has_room b verb_room float_room m ≡ true → has_room b verb_room float_room n ≡ true
 unfolding has_room
-room_covered b vn fn n m c e =
-    let v = leb-true (b.verbs + m.verbs) vn (and_left _ _ e) in
-    let p = leb-true (b.points + m.points) (fn / 2) (and_right (leb (b.verbs + m.verbs) vn) _ e) in
-    let nv : b.verbs + n.verbs ≤ vn = omega (arith, c.verbs) in
-    let np : b.points + n.points ≤ fn / 2 = omega (arith, c.points) in
-    rw (le-leb (b.verbs + n.verbs) vn nv, le-leb (b.points + n.points) (fn / 2) np)
+room_covered b verb_room float_room n m c e =
+    let v = leb-true (b.verbs + m.verbs) verb_room (and_left _ _ e) in
+    let p = leb-true (b.points + m.points) (float_room / 2) (and_right (leb (b.verbs + m.verbs) verb_room) _ e) in
+    let nv : b.verbs + n.verbs ≤ verb_room = omega (arith, c.verbs) in
+    let np : b.points + n.points ≤ float_room / 2 = omega (arith, c.points) in
+    rw (le-leb (b.verbs + n.verbs) verb_room nv, le-leb (b.points + n.points) (float_room / 2) np)
 
 -- what is admitted with a need is admitted with any that it covers
-pub admitted_too : (b : Builder) (x : ⊤) (vn fn : ℕ) (n m : Need) (r : Result ⊤ BuildError) → Covered n m → r ≡ admit_of b vn fn m → r ≡ Ok x → r ≡ admit_of b vn fn n
+pub admitted_too : (b : Builder) (x : ⊤) (verb_room float_room : ℕ) (n m : Need) (r : Result ⊤ BuildError) → Covered n m → r ≡ admit_of b verb_room float_room m → r ≡ Ok x → r ≡ admit_of b verb_room float_room n
 unfolding admit_of
-admitted_too b x vn fn n m r c e d =
-    let a = admitted b x vn fn m e d in
-    let k = room_covered b vn fn n m c a.room in
+admitted_too b x verb_room float_room n m r c e d =
+    let a = admitted b x verb_room float_room m e d in
+    let k = room_covered b verb_room float_room n m c a.room in
     e ∙ rw (a.good, a.room, k)
 
 -- a need is asked for where a larger one is not admitted
-pub admitted_or : (b : Builder) (vn fn : ℕ) (n m : Need) (a r : Result ⊤ BuildError) (Q : BuildError → Type 0) → Covered n m → a ≡ admit_of b vn fn m → MatchResult a (λ x. r ≡ Ok x) Q → ((e : BuildError) → Q e → r ≡ admit_of b vn fn n) → r ≡ admit_of b vn fn n
-admitted_or b vn fn n m (Ok x) r Q c f h k = h ∙ admitted_too b x vn fn n m _ c f refl
-admitted_or b vn fn n m (Err e) r Q c f h k = k e h
+pub admitted_or : (b : Builder) (verb_room float_room : ℕ) (n m : Need) (a r : Result ⊤ BuildError) (Q : BuildError → Type 0) → Covered n m → a ≡ admit_of b verb_room float_room m → MatchResult a (λ x. r ≡ Ok x) Q → ((e : BuildError) → Q e → r ≡ admit_of b verb_room float_room n) → r ≡ admit_of b verb_room float_room n
+admitted_or b verb_room float_room n m (Ok x) r Q c f h k = h ∙ admitted_too b x verb_room float_room n m _ c f refl
+admitted_or b verb_room float_room n m (Err e) r Q c f h k = k e h

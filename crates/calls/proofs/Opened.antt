@@ -19,9 +19,9 @@ use Rattle.stream.specs.declared.Need.{Need}
 use Rattle.stream.specs.Stream.{State, is_empty, bad_state, room_for, need_of, push, push_all, size_of, sizes_of}
 use Rattle.stream.proofs.Tests.{room-is}
 use Rattle.stream.proofs.Pushed.{push_all-one, push_all_append, push_all-verbs, push-all_points, sizes_append, sizes-one}
-use Rattle.lowering.specs.declared.Written.{Written}
-use Rattle.lowering.specs.Entries.{Entry, plain, elements_of, pieces_in, joint_word, lowered_of, plainly_written}
-use Rattle.lowering.proofs.Entries.{elements_append}
+use Rattle.conic_writer.specs.declared.Written.{Written}
+use Rattle.conic_writer.specs.Entries.{Entry, plain, elements_of, pieces_in, joint_word, lowered_of, plainly_written}
+use Rattle.conic_writer.proofs.Entries.{elements_append}
 use Rattle.calls.specs.declared.BuildError.{BuildError}
 use Rattle.calls.specs.declared.Call.TheVariants as call
 use Rattle.calls.specs.Calls.{Outcome, opening, opened_need, conic_from, entries_of, outcome, attempt, step, admit_of, refusal_of, with_word, outcome_of, conic_outcome_of}

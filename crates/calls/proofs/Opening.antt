@@ -9,7 +9,7 @@ use lib.Dec.{eqb}
 use borrow.Author.Tests.{eq-eqb, ne_eqb}
 use Rattle.stream.specs.declared.Element.TheVariants.{Close}
 use Rattle.stream.specs.Stream.{sizes_of, need_of}
-use Rattle.lowering.specs.Entries.{Entry, plain, elements_of, pieces_in, joint_word}
+use Rattle.conic_writer.specs.Entries.{Entry, plain, elements_of, pieces_in, joint_word}
 use Rattle.calls.specs.Calls.{opening, closing, opened_need}
 
 -- it has no piece

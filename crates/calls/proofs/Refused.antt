@@ -6,7 +6,7 @@ use Prim.Native.Nat.{ℕ}
 use native.Mathlib.Omega.{arith}
 use lib.Ieee.{Float}
 use Rattle.stream.specs.Stream.{State, state, is_empty, push_all, bad_state, room_for}
-use Rattle.lowering.specs.Entries.{Entry, elements_of, joint_word}
+use Rattle.conic_writer.specs.Entries.{Entry, elements_of, joint_word}
 use Rattle.calls.specs.declared.Call.{Call}
 use Rattle.calls.specs.declared.BuildError.{BuildError}
 use Rattle.calls.specs.declared.BuildError.TheVariants.{BadRecord, NoRoom}

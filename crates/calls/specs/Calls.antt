@@ -1,6 +1,6 @@
 -- The six building calls: what each adds, when it is refused, and what it leaves in the record and in the buffers. Every public call's contract is an
 -- equation with `step`. Definitions only.
-use Rattle.std.specs.Prelude.{List, [], ◌∷◌, ◌++◌, Bool, true, false, cond, ℕ, ◌+◌, Float, Result, Ok, Err, ⊤}
+use Rattle.std.specs.Prelude.{List, [], ◌∷◌, ◌++◌, Bool, true, false, ℕ, ◌+◌, Float, Result, Ok, Err, ⊤, if◌then◌else◌, codes}
 use Rattle.geometry.specs.declared.Point.{Point}
 use Rattle.conic.specs.declared.Conic.{Conic}
 use Rattle.conic.specs.Conic.{lower_of}
@@ -8,8 +8,8 @@ use Rattle.stream.specs.declared.Builder.{Builder}
 use Rattle.stream.specs.declared.Element.TheVariants.{Move, Line, Quad, Cubic, Close}
 use Rattle.stream.specs.declared.Need.{Need}
 use Rattle.stream.specs.Stream.{State, state, origin, is_empty, bad_record, bad_record_text, has_room, bad_state, room_for, push_all}
-use Rattle.lowering.specs.declared.Written.{Written}
-use Rattle.lowering.specs.Entries.{Entry, plain, elements_of, joint_word, lowered_of}
+use Rattle.conic_writer.specs.declared.Written.{Written}
+use Rattle.conic_writer.specs.Entries.{Entry, plain, elements_of, joint_word, lowered_of}
 use Rattle.calls.specs.declared.Call.{Call}
 use Rattle.calls.specs.declared.Call.TheVariants as call
 use Rattle.calls.specs.declared.BuildError.{BuildError}
@@ -29,7 +29,7 @@ closing false = plain Close ∷ []
 
 -- a conic starts at the pen, on a path with no element at (0, 0)
 abbrev pub conic_from : Bool → Point → Point → Point → Float → Conic
-conic_from empty pen ctrl to weight = record { from = cond empty origin pen; ctrl = ctrl; to = to; weight = weight }
+conic_from empty pen ctrl to weight = record { from = if empty then origin else pen; ctrl = ctrl; to = to; weight = weight }
 
 -- what a call adds to a path that is empty or not, and whose pen is p
 unfoldable pub entries_of : Bool → Point → Call → List Entry
@@ -59,8 +59,8 @@ outcome n w s = record { number = n; word = w; state = s }
 -- all of the entries, or nothing: 1 before 5
 unfoldable pub attempt : State → List Entry → Outcome
 attempt s es =
-    cond (bad_state s) (outcome 1 0 s)
-    (cond (room_for s (elements_of es)) (outcome 0 (joint_word es) (push_all s (elements_of es))) (outcome 5 0 s))
+    if bad_state s then outcome 1 0 s
+    else (if room_for s (elements_of es) then outcome 0 (joint_word es) (push_all s (elements_of es)) else outcome 5 0 s)
 
 -- a call of a kind that is given by its entries, and one of the six
 abbrev pub step_by : {C : Type 0} → (Bool → Point → C → List Entry) → State → C → Outcome
@@ -79,7 +79,7 @@ record_of (BadRecord b) = b
 record_of (NoRoom b) = b
 
 abbrev pub no_room_text : List ℕ
-no_room_text = 110 ∷ 111 ∷ 32 ∷ 114 ∷ 111 ∷ 111 ∷ 109 ∷ 32 ∷ 105 ∷ 110 ∷ 32 ∷ 116 ∷ 104 ∷ 101 ∷ 32 ∷ 98 ∷ 117 ∷ 102 ∷ 102 ∷ 101 ∷ 114 ∷ 115 ∷ []  -- `no room in the buffers`
+no_room_text = codes "no room in the buffers"
 
 -- what is told of a refusal
 abbrev pub refusal_text : BuildError → List ℕ
@@ -105,4 +105,4 @@ with_word (Err e) w = Err e
 
 -- the refusal of a need in buffers of vn bytes and fn floats, if there is one
 unfoldable pub admit_of : Builder → ℕ → ℕ → Need → Result ⊤ BuildError
-admit_of b vn fn n = cond (bad_record b vn fn) (Err (BadRecord b)) (cond (has_room b vn fn n) (Ok tt) (Err (NoRoom b)))
+admit_of b verb_room float_room n = if bad_record b verb_room float_room then Err (BadRecord b) else (if has_room b verb_room float_room n then Ok tt else Err (NoRoom b))

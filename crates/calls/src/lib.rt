@@ -1,16 +1,16 @@
-// The six building calls as values: what each needs, whether buffers have room for it, and the
-// answers.
+//! The six building calls as values: what each needs, whether buffers have room for it, and the
+//! answers.
 
 #![tactic(auto)]
 
 ghost use Rattle.std.specs.Prelude.{◌≡◌, ◌++◌, Some};
 ghost use Rattle.stream.specs.Stream.{is_empty, need_of};
-ghost use Rattle.lowering.specs.Entries.{elements_of, lowered_of};
+ghost use Rattle.conic_writer.specs.Entries.{elements_of, lowered_of};
 ghost use Rattle.calls.specs.Calls.{conic_from, opened_need, opening, closing, entries_of, number_of, record_of, refusal_text, with_word, admit_of};
 
 use conic::{Conic, Lowered};
 use geometry::Point;
-use lowering::Written;
+use conic_writer::Written;
 use std::error::Error;
 use std::fmt;
 use stream::{Builder, Need};
@@ -28,7 +28,7 @@ pub enum Call {
     Close,
 }
 
-// The refusal of a call, with the same record.
+/// The refusal of a call, with the same record.
 #[derive(Clone, Copy, Debug)]
 pub enum BuildError {
     // Cause 1: the record does not suit the buffers.
@@ -38,7 +38,7 @@ pub enum BuildError {
 }
 
 impl BuildError {
-    // Document 01's number.
+    /// Document 01's number.
     pub fn number(self) -> u8
         ensures { result ≡ number_of self }
     {
@@ -71,14 +71,14 @@ impl fmt::Display for BuildError {
 
 impl Error for BuildError {}
 
-// The same answer with a joint word.
+/// The same answer with a joint word.
 pub fn with_word(a: Result<Builder, BuildError>, word: u64) -> Result<Written, BuildError>
     ensures { result ≡ with_word a word }
 {
     a.map(|builder| Written { builder, word })
 }
 
-// A conic that starts at the pen: on an empty builder at (0, 0), whatever the record's pen.
+/// A conic that starts at the pen: on an empty builder at (0, 0), whatever the record's pen.
 pub fn conic_from(b: Builder, ctrl: Point, to: Point, weight: f32) -> Conic
     ensures { result ≡ conic_from (is_empty b) b.pen ctrl to weight }
 {
@@ -99,7 +99,7 @@ pub fn conic_from(b: Builder, ctrl: Point, to: Point, weight: f32) -> Conic
     }
 }
 
-// So many verbs and points, with those of the opening move where the builder is empty.
+/// So many verbs and points, with those of the opening move where the builder is empty.
 pub fn opened_need(b: Builder, verbs: u32, points: u32) -> Need
     ensures { result ≡ opened_need (is_empty b) verbs points }
 {
@@ -127,8 +127,8 @@ pub fn lowered_need(b: Builder, l: Lowered) -> Need
     }
 }
 
-// A close on an empty builder adds nothing.
-#[tactic(auto, unfolding(lowering::specs::Entries::elements_of, stream::specs::Stream::sizes_of))]
+/// A close on an empty builder adds nothing.
+#[tactic(auto, unfolding(conic_writer::specs::Entries::elements_of, stream::specs::Stream::sizes_of))]
 pub fn close_need(b: Builder) -> Need
     ensures { result ≡ need_of (elements_of (closing (is_empty b))) }
 {
@@ -144,7 +144,7 @@ pub fn close_need(b: Builder) -> Need
     }
 }
 
-// What a call adds to the record's counts, if it is accepted.
+/// What a call adds to the record's counts, if it is accepted.
 pub fn need(b: Builder, call: Call) -> Need
     ensures { result ≡ need_of (elements_of (entries_of (is_empty b) b.pen call)) }
 {
@@ -163,7 +163,7 @@ pub fn need(b: Builder, call: Call) -> Need
     }
 }
 
-// Whether a need is met by buffers of these lengths.
+/// Whether a need is met by buffers of these lengths.
 #[tactic(auto, unfolding(crate::specs::Calls::admit_of))]
 pub fn admit(b: Builder, verbs: usize, floats: usize, need: Need) -> Result<(), BuildError>
     ensures { result ≡ admit_of b verbs floats need }
@@ -177,8 +177,8 @@ pub fn admit(b: Builder, verbs: usize, floats: usize, need: Need) -> Result<(), 
     Err(BuildError::NoRoom(b))
 }
 
-// The same of a lowered conic. Buffers with room for the largest need, 64 quads, have room for any:
-// only in fuller ones are the quads counted.
+/// The same of a lowered conic. Buffers with room for the largest need, 64 quads, have room for any:
+/// only in fuller ones are the quads counted.
 pub fn admit_lowered(b: Builder, verbs: usize, floats: usize, l: Lowered) -> Result<(), BuildError>
     ensures { result ≡ admit_of b verbs floats (need_of (elements_of (opening (is_empty b) ++ lowered_of l))) }
 {

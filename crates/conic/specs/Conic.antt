@@ -1,6 +1,6 @@
 -- One step of the Rust's push_conic: which conics are a line, when a conic is flat enough for one quad, and how it is halved.
 -- Each float operation of binary32 is rounded once, in the order of the Rust. Definitions only.
-use Rattle.std.specs.Prelude.{Bool, true, false, cond, not, ◌||◌, Float}
+use Rattle.std.specs.Prelude.{Bool, true, false, not, ◌||◌, Float, if◌then◌else◌}
 use Rattle.std.specs.Float.{binary32}
 use Rattle.std.specs.Float.Ieee.{of_bits, add, sub, mul, div, lt, le}
 use Rattle.std.specs.Float.Ieee.Scale.{finite}
@@ -34,7 +34,7 @@ is_line c = not (finite c.weight) || le c.weight zero || not (finite_point c.ctr
 
 -- one line to the target, or the curve itself
 unfoldable pub lower_of : Conic → Lowered
-lower_of c = cond (is_line c) (Line c.to) (Curve c)
+lower_of c = if is_line c then Line c.to else Curve c
 
 -- the conic's point at its middle parameter
 unfoldable pub conic_mid : Conic → Point
@@ -59,7 +59,7 @@ chord_of c = length_squared_of (sub_of c.to c.from)
 unfoldable pub near_of : Float → Float → Bool
 near_of d c =
     let chord = sqrt_of binary32 c in
-    cond (lt zero chord) (le (sqrt_of binary32 d) (mul binary32 thousandth chord)) false
+    if lt zero chord then le (sqrt_of binary32 d) (mul binary32 thousandth chord) else false
 
 -- a weight near 1
 abbrev pub near_one_of : Float → Bool
@@ -68,9 +68,9 @@ near_one_of w = le (abs_of (sub binary32 w one)) thousandth
 -- flat enough for one quad: the weight is near 1, or the two middles are near each other, measured by a chord above 0
 unfoldable pub flat_of : Conic → Bool
 flat_of c =
-    cond (near_one_of c.weight) true
-    (let chord = length_of (sub_of c.to c.from) in
-    cond (lt zero chord) (le (length_of (sub_of (conic_mid c) (quad_mid c))) (mul binary32 thousandth chord)) false)
+    if near_one_of c.weight then true
+    else (let chord = length_of (sub_of c.to c.from) in
+    if lt zero chord then le (length_of (sub_of (conic_mid c) (quad_mid c))) (mul binary32 thousandth chord) else false)
 
 -- the weight of both halves of a conic with this weight
 unfoldable pub half_weight_of : Float → Float

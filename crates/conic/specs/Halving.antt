@@ -1,6 +1,6 @@
 -- The quads that the Rust's push_conic leaves of a conic, each with its span: the whole conic is 0 to 64, and a half of a conic has half its span.
 -- Definitions only.
-use Rattle.std.specs.Prelude.{List, [], ◌∷◌, ◌++◌, Bool, true, cond, ℕ, zero, suc, ◌+◌, ◌^◌, length}
+use Rattle.std.specs.Prelude.{List, [], ◌∷◌, ◌++◌, Bool, true, ℕ, zero, suc, ◌+◌, ◌^◌, length, if◌then◌else◌}
 use Rattle.geometry.specs.declared.Point.{Point}
 use Rattle.conic.specs.declared.Conic.{Conic}
 use Rattle.conic.specs.Conic.{flat_of, split_of}
@@ -30,8 +30,8 @@ is_one_quad (suc depth) c = flat_of c
 unfoldable pub halve : ℕ → Conic → ℕ → List Piece
 halve zero c start = piece_of c start 1 ∷ []
 halve (suc depth) c start =
-    cond (flat_of c) (piece_of c start (2 ^ suc depth) ∷ [])
-    (let h = split_of c in halve depth h.left start ++ halve depth h.right (start + 2 ^ depth))
+    if flat_of c then piece_of c start (2 ^ suc depth) ∷ []
+    else (let h = split_of c in halve depth h.left start ++ halve depth h.right (start + 2 ^ depth))
 
 -- the joint word: bit k where a quad starts at k
 unfoldable pub word_of : List Piece → ℕ

@@ -1,5 +1,5 @@
 -- What document 01 says of the pieces of a conic: their number, their spans, their joint word and their end. Definitions only.
-use Rattle.std.specs.Prelude.{◌≡◌, List, [], ◌∷◌, Bool, false, cond, ◌||◌, ℕ, ◌+◌, ◌*◌, ◌/◌, ◌%◌, ◌^◌, ◌≤◌, ◌<◌, length, eqb}
+use Rattle.std.specs.Prelude.{◌≡◌, List, [], ◌∷◌, Bool, false, ◌||◌, ℕ, ◌+◌, ◌*◌, ◌/◌, ◌%◌, ◌^◌, ◌≤◌, ◌<◌, length, if◌then◌else◌, ◌==◌}
 use Rattle.geometry.specs.declared.Point.{Point}
 use Rattle.conic.specs.declared.Conic.{Conic}
 use Rattle.conic.specs.Halving.{Span, Piece, word_of}
@@ -26,7 +26,7 @@ bit_of w k = (w / 2 ^ k) % 2
 
 unfoldable pub starts_at : ℕ → List Piece → Bool
 starts_at k [] = false
-starts_at k (p ∷ ps) = eqb k p.span.start || starts_at k ps
+starts_at k (p ∷ ps) = k == p.span.start || starts_at k ps
 
 -- the target of the last quad, or p where there is none
 unfoldable pub last_target : Point → List Piece → Point
@@ -39,6 +39,6 @@ pub record WholeConic (c : Conic) (ps : List Piece) : Type 0 where
   pub few : length ps ≤ 64
   pub tiles : Tiles 0 ps 64
   pub dyadic : AllDyadic ps
-  pub marks : (k : ℕ) → bit_of (word_of ps) k ≡ cond (starts_at k ps) 1 0
+  pub marks : (k : ℕ) → bit_of (word_of ps) k ≡ (if starts_at k ps then 1 else 0)
   pub marked : 0 < word_of ps
   pub ends : last_target c.from ps ≡ c.to

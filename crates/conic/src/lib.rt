@@ -1,9 +1,9 @@
-// The Rust's push_conic: a conic becomes one line, or 1 to 64 quads that halving leaves. Every float
-// operation stands in the order of the Rust.
+//! The Rust's push_conic: a conic becomes one line, or 1 to 64 quads that halving leaves. Every float
+//! operation stands in the order of the Rust.
 
 #![tactic(auto)]
 
-ghost use Rattle.std.specs.Prelude.{◌≡◌, ℕ, ◌≤◌, ◌/◌, ◌%◌, eqb, length, map, get_or};
+ghost use Rattle.std.specs.Prelude.{◌≡◌, ℕ, ◌≤◌, ◌/◌, ◌%◌, length, map, get_or, ◌==◌};
 ghost use Rattle.std.specs.Float.{binary32, nan};
 ghost use Rattle.ieee.specs.Sqrt.{sqrt_of};
 ghost use Rattle.conic.specs.Vectors.{point_in, pair, conic_in, halves_in, squares_of};
@@ -21,8 +21,8 @@ pub struct Conic {
     pub weight: f32,
 }
 
-// Both halves of a conic, side by side: a vector holds a point of the left half and then one of the right. `left` has
-// where each half starts, which is the left half's start and end, and `right` where each ends.
+/// Both halves of a conic, side by side: a vector holds a point of the left half and then one of the right. `left` has
+/// where each half starts, which is the left half's start and end, and `right` where each ends.
 #[derive(Clone, Copy)]
 pub struct Subdivision {
     pub left: f32x4,
@@ -30,21 +30,21 @@ pub struct Subdivision {
     pub right: f32x4,
 }
 
-// Which of two halves are one quad by their middles.
+/// Which of two halves are one quad by their middles.
 #[derive(Drop)]
 pub struct Nearness {
     pub left: bool,
     pub right: bool,
 }
 
-// What a conic is drawn as: one line, or the quads of a curve.
+/// What a conic is drawn as: one line, or the quads of a curve.
 #[derive(Clone, Copy)]
 pub enum Lowered {
     Line(Point),
     Curve(Conic),
 }
 
-// How often a conic is halved at most.
+/// How often a conic is halved at most.
 pub const MAX_DEPTH: usize = 6;
 
 // Bounds outside which squared lengths decide: a distance whose square is below LESS times that of the chord is near, and one whose
@@ -66,7 +66,7 @@ fn is_line(c: Conic) -> bool
     true
 }
 
-// The one rule of what a conic is drawn as: the need of a conic and its writing both go by it.
+/// The one rule of what a conic is drawn as: the need of a conic and its writing both go by it.
 #[tactic(auto, unfolding(crate::specs::Conic::lower_of))]
 pub fn lower(c: Conic) -> Lowered
     ensures { result ≡ lower_of c }
@@ -95,7 +95,7 @@ fn quad_mid(c: Conic) -> Point
     sum * 0.25
 }
 
-// Whether a weight is near 1. By two comparisons: the absolute value would keep a NaN apart.
+/// Whether a weight is near 1. By two comparisons: the absolute value would keep a NaN apart.
 pub fn is_near_one(w: f32) -> bool
     ensures { result ≡ near_one_of w }
 {
@@ -111,7 +111,7 @@ fn roots(x: f32x4) -> f32x4
     f32x4::from_array([ieee::sqrt(a), ieee::sqrt(b), ieee::sqrt(c), ieee::sqrt(d)])
 }
 
-// Whether one quad is near enough to a conic.
+/// Whether one quad is near enough to a conic.
 #[tactic(auto, unfolding(crate::specs::Conic::flat_of))]
 pub fn is_flat(c: Conic) -> bool
     ensures { result ≡ flat_of c }
@@ -123,7 +123,7 @@ pub fn is_flat(c: Conic) -> bool
     chord > 0.0 && (conic_mid(c) - quad_mid(c)).length() <= 0.001 * chord
 }
 
-// The weight of both halves of a conic.
+/// The weight of both halves of a conic.
 #[tactic(auto, unfolding(crate::specs::Conic::half_weight_of))]
 pub fn half_weight(w: f32) -> f32
     ensures { result ≡ half_weight_of w }
@@ -131,7 +131,7 @@ pub fn half_weight(w: f32) -> f32
     ieee::sqrt((1.0 + w) * 0.5)
 }
 
-// A conic in two vectors, and its weight beside them: start and target, and the control twice.
+/// A conic in two vectors, and its weight beside them: start and target, and the control twice.
 pub fn ends(c: Conic) -> f32x4
     ensures { result ≡ pair c.from c.to }
 {
@@ -157,7 +157,7 @@ pub fn of_vectors(ends: f32x4, ctrl: f32x4, weight: f32) -> Conic
     }
 }
 
-// Both halves of a conic from and to the points in `ends`, at its middle parameter; `ctrl` begins with its control.
+/// Both halves of a conic from and to the points in `ends`, at its middle parameter; `ctrl` begins with its control.
 #[tactic(auto, unfolding(crate::specs::Conic::split_of))]
 pub fn subdivide(ends: f32x4, ctrl: f32x4, w: f32) -> Subdivision
     ensures { halves_in result.left result.ctrls result.right (half_weight_of w) ≡ split_of (conic_in ends ctrl w) }
@@ -180,7 +180,7 @@ pub fn subdivide(ends: f32x4, ctrl: f32x4, w: f32) -> Subdivision
 // What bits 0 and 1 say, of the left half and the right.
 #[inline(always)]
 fn nearness_from_bits(bits: u64) -> Nearness
-    ensures { (result.left ≡ eqb (bits % 2) 1) × (result.right ≡ eqb (bits / 2 % 2) 1) }
+    ensures { (result.left ≡ (bits % 2 == 1)) × (result.right ≡ (bits / 2 % 2 == 1)) }
 {
     Nearness {
         left: bits % 2 == 1,
@@ -191,7 +191,7 @@ fn nearness_from_bits(bits: u64) -> Nearness
 // Whether each half is near, by the lengths themselves: bit 0 says it of the left half, bit 1 of the right.
 #[inline(always)]
 fn near_by_roots(squares: f32x4) -> u64
-    ensures { (eqb (result % 2) 1 ≡ near_of (get_or squares 0 nan) (get_or squares 2 nan)) × (eqb (result / 2 % 2) 1 ≡ near_of (get_or squares 1 nan) (get_or squares 3 nan)) }
+    ensures { ((result % 2 == 1) ≡ near_of (get_or squares 0 nan) (get_or squares 2 nan)) × ((result / 2 % 2 == 1) ≡ near_of (get_or squares 1 nan) (get_or squares 3 nan)) }
 {
     let lengths = roots(squares);
     let chords = lengths.swizzle([2, 3, 2, 3]);
@@ -220,7 +220,7 @@ fn near_by_squares(squares: f32x4) -> Nearness
     nearness_from_bits(near_by_roots(squares))
 }
 
-// Whether the middles of each half and of its quad are near each other, measured by a chord above 0.
+/// Whether the middles of each half and of its quad are near each other, measured by a chord above 0.
 pub fn is_near(left: f32x4, ctrls: f32x4, right: f32x4, u: f32) -> Nearness
     requires { point_in left 2 ≡ point_in right 0 }
     ensures { (h : Halves) → h ≡ halves_in left ctrls right u → (result.left ≡ near_of (distance_of h.left) (chord_of h.left)) × (result.right ≡ near_of (distance_of h.right) (chord_of h.right)) }
@@ -235,7 +235,7 @@ pub fn is_near(left: f32x4, ctrls: f32x4, right: f32x4, u: f32) -> Nearness
     near_by_squares(d.shuffle(c, [0, 2, 4, 6]) + d.shuffle(c, [1, 3, 5, 7]))
 }
 
-// The second of two points, twice: the control of the right half, where a conic has its own.
+/// The second of two points, twice: the control of the right half, where a conic has its own.
 pub fn second(v: f32x4) -> f32x4
     ensures { result ≡ pair (point_in v 2) (point_in v 2) }
 {
@@ -260,7 +260,7 @@ fn count_quads(ends: f32x4, ctrl: f32x4, w: f32, depth: usize, one: bool) -> usi
         + count_quads(h.right, right_ctrl, u, d, last | near.right)
 }
 
-// How many quads a conic is drawn as: 1 to 64.
+/// How many quads a conic is drawn as: 1 to 64.
 #[tactic(auto, unfolding(crate::specs::Halving::count_of, crate::specs::Halving::is_one_quad))]
 pub fn count(c: Conic) -> usize
     ensures { result ≡ count_of c }

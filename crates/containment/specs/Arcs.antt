@@ -1,5 +1,5 @@
 -- A quick test that tells most points outside a corner: those beyond one of its circular arcs. Cited by the contracts of inner functions. Definitions only.
-use Rattle.std.specs.Prelude.{Bool, cond, not, ◌&&◌, ◌||◌, List, [], ◌∷◌, ℕ, ◌+◌, get_or, Float}
+use Rattle.std.specs.Prelude.{Bool, not, ◌&&◌, ◌||◌, List, [], ◌∷◌, ℕ, ◌+◌, get_or, Float, if◌then◌else◌}
 use Rattle.std.specs.Float.{binary32, nan}
 use Rattle.std.specs.Float.Ieee.{add, sub, mul, lt, le}
 use Rattle.geometry.specs.declared.Point.{Point}
@@ -49,7 +49,7 @@ beyond_arcs a n = a.is_round && (beyond_arc a.from a.center a.bounds 0 n || beyo
 unfoldable pub misses_of : Arcs → Bool → Point → Bool
 misses_of a same p =
     let n = div_of (sub_of p a.offset) a.signed_scale in
-    cond same (beyond_arcs a (abs_point n)) (not (lt n.x zero || lt n.y zero) && beyond_arcs a n)
+    if same then beyond_arcs a (abs_point n) else not (lt n.x zero || lt n.y zero) && beyond_arcs a n
 
 -- of the four corners: top right, bottom right, top left, bottom left
 unfoldable pub arcs_in : RoundSuperellipse → List Arcs

@@ -1,9 +1,9 @@
-// Whether a shape contains a point, by the curve itself. It refuses nothing: a NaN follows IEEE comparison.
-// Binary32 throughout, every operation rounded once, with the Rust's names and in its order.
+//! Whether a shape contains a point, by the curve itself. It refuses nothing: a NaN follows IEEE comparison.
+//! Binary32 throughout, every operation rounded once, with the Rust's names and in its order.
 
 #![tactic(auto)]
 
-ghost use Rattle.std.specs.Prelude.{◌≡◌, cond, ◌&&◌, ◌||◌};
+ghost use Rattle.std.specs.Prelude.{◌≡◌, ◌&&◌, ◌||◌, if◌then◌else◌};
 ghost use Rattle.std.specs.Float.Ieee.{lt};
 ghost use Rattle.ieee.specs.Basic.{abs_of};
 ghost use Rattle.octant.specs.Binary32.{zero};
@@ -46,7 +46,7 @@ fn asks_powers(param: Octant, p: Point) -> bool
     p.x <= param.circle_start.x
 }
 
-// Whether p is inside the octant's arc; true for any point outside the octant.
+/// Whether p is inside the octant's arc; true for any point outside the octant.
 #[tactic(auto, unfolding(crate::specs::Contains::octant_contains_of, crate::specs::Parts::in_superellipse))]
 pub fn octant_contains(param: Octant, p: Point) -> bool
     ensures { result ≡ octant_contains_of param p }
@@ -131,7 +131,7 @@ fn is_passed_over(p: Point, check_quadrant: bool) -> bool
 // A coordinate mirrored into the quadrant, unless it is asked for points of its own alone. One coordinate at a time: a
 // point that is one of two would go through memory.
 fn mirrored(x: f32, check_quadrant: bool) -> f32
-    ensures { result ≡ cond check_quadrant x (abs_of x) }
+    ensures { result ≡ (if check_quadrant then x else abs_of x) }
 {
     if check_quadrant {
         return x;
@@ -139,7 +139,7 @@ fn mirrored(x: f32, check_quadrant: bool) -> f32
     ieee::abs(x)
 }
 
-// One call of `norm_contains`, so that it is compiled in place and no record is copied for it.
+/// One call of `norm_contains`, so that it is compiled in place and no record is copied for it.
 pub fn corner_contains(param: Quadrant, p: Point, check_quadrant: bool) -> bool
     ensures { result ≡ corner_contains_of param p check_quadrant }
 {
@@ -167,8 +167,8 @@ pub fn contains(shape: RoundSuperellipse, p: Point) -> bool
         && corner_contains(shape.top_left, p, true)
 }
 
-// What a corner's circular arcs ask of a point, for a quick test: most points outside lie beyond an arc. A vector's first two
-// numbers are the top octant's and its last two the right one's, whose x and y are exchanged, so that both are tested in one go.
+/// What a corner's circular arcs ask of a point, for a quick test: most points outside lie beyond an arc. A vector's first two
+/// numbers are the top octant's and its last two the right one's, whose x and y are exchanged, so that both are tested in one go.
 #[derive(Clone, Copy)]
 pub struct Arcs {
     pub offset: Point,
@@ -219,7 +219,7 @@ fn arcs_of(q: Quadrant) -> Arcs
     }
 }
 
-// The corners' arcs: top right, bottom right, top left, bottom left.
+/// The corners' arcs: top right, bottom right, top left, bottom left.
 #[tactic(auto, unfolding(crate::specs::Arcs::arcs_in))]
 pub fn all_arcs(shape: RoundSuperellipse) -> [Arcs; 4]
     ensures { result ≡ arcs_in shape }
@@ -252,14 +252,14 @@ fn is_beyond_arcs(a: Arcs, n: Point) -> bool
     a.is_round & is_beyond_either(a.from, a.center, a.bounds, n)
 }
 
-// The same of a corner whose numbers were not taken out before: a round corner does not hold such a point.
+/// The same of a corner whose numbers were not taken out before: a round corner does not hold such a point.
 pub fn is_beyond(q: Quadrant, n: Point) -> bool
     ensures { result ≡ beyond_arcs (arcs_of q) n }
 {
     is_beyond_arcs(arcs_of(q), n)
 }
 
-// Whether p lies beyond an arc. Then the corner does not contain it.
+/// Whether p lies beyond an arc. Then the corner does not contain it.
 #[tactic(auto, unfolding(crate::specs::Arcs::misses_of))]
 pub fn misses(a: Arcs, same: bool, p: Point) -> bool
     ensures { result ≡ misses_of a same p }

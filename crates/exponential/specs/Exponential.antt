@@ -1,5 +1,5 @@
 -- Document 01's exp. The steps are binary64, each rounded once, in the order written there. Definitions only.
-use Rattle.std.specs.Prelude.{◌+◌, ◌-◌, ◌*◌, ◌/◌, Bool, true, false, cond, ◌&&◌, ℤ, pos, neg_ℤ, Float}
+use Rattle.std.specs.Prelude.{◌+◌, ◌-◌, ◌*◌, ◌/◌, Bool, true, false, ◌&&◌, ℤ, pos, neg_ℤ, Float, if◌then◌else◌}
 use Rattle.std.specs.Float.{nan, inf, fin, binary64}
 use Rattle.std.specs.Float.Ieee.{of_bits, add, sub, mul, div, neg, lt, of_int, up, down}
 use Rattle.series.specs.Coefficients.{H, factorial_reciprocal}
@@ -15,9 +15,9 @@ floor_of (fin true m e) = neg_ℤ (pos ((m * up e + (down e - 1)) / down e))
 -- t > 100: infinity; t < -110: 0; g = floor(t/LN2 + 0.5), r = t - g·LN2; H(1/k!, r, 13), scaled by 2^g
 unfoldable pub exp_of : Float → Float
 exp_of t =
-    cond (lt hundred t) (inf false)
-    (cond (lt t lowest) zero
-    (let g = floor_of (add binary64 (div binary64 t ln2) half) in
+    if lt hundred t then inf false
+    else (if lt t lowest then zero
+    else (let g = floor_of (add binary64 (div binary64 t ln2) half) in
     let r = sub binary64 t (mul binary64 (of_int binary64 g) ln2) in
     mul binary64 (H factorial_reciprocal r 13) (fin false 1 g)))
 

@@ -1,5 +1,5 @@
 -- Document 01's ln, of a finite number above 0. The steps are binary64, each rounded once, in the order written there. Definitions only.
-use Rattle.std.specs.Prelude.{false, cond, ℤ, pos, ◌+ℤ◌, Float}
+use Rattle.std.specs.Prelude.{false, ℤ, pos, ◌+ℤ◌, Float, if◌then◌else◌}
 use Rattle.std.specs.Float.{nan, inf, fin, binary64}
 use Rattle.std.specs.Float.Ieee.{add, sub, mul, div, le, of_int, minus, size}
 use Rattle.series.specs.Coefficients.{H, odd_reciprocal}
@@ -28,4 +28,4 @@ unfoldable pub ln_of : Float → Float
 ln_of u =
     let f = fraction_of u in
     let e = exponent_of u in
-    cond (le one_and_half f) (ln_at (div binary64 f two) (of_int binary64 (e +ℤ pos 1))) (ln_at f (of_int binary64 e))
+    if le one_and_half f then ln_at (div binary64 f two) (of_int binary64 (e +ℤ pos 1)) else ln_at f (of_int binary64 e)

@@ -1,5 +1,5 @@
 -- Document 01's pow: the first rule that applies. Definitions only.
-use Rattle.std.specs.Prelude.{Bool, true, false, cond, ◌||◌, Float}
+use Rattle.std.specs.Prelude.{Bool, true, false, ◌||◌, Float, if◌then◌else◌}
 use Rattle.std.specs.Bool.{beq}
 use Rattle.std.specs.Float.{nan, inf, fin, binary32, binary64}
 use Rattle.std.specs.Float.Ieee.{of_bits, mul, lt, eq, ne}
@@ -28,11 +28,11 @@ main_of b y = narrow_of (exp_of (mul binary64 (widen_of y) (ln_of (widen_of b)))
 -- b infinite: infinity if y > 0, else 0; y infinite: 0 if (b < 1) is (y > 0), else infinity
 unfoldable pub pow_of : Float → Float → Float
 pow_of b y =
-    cond (ne b b || ne y y) nan
-    (cond (lt b zero) nan
-    (cond (eq b one) one
-    (cond (eq y zero) one
-    (cond (eq b zero) (cond (lt zero y) zero (inf false))
-    (cond (infinite b) (cond (lt zero y) (inf false) zero)
-    (cond (infinite y) (cond (beq (lt b one) (lt zero y)) zero (inf false))
-    (main_of b y)))))))
+    if ne b b || ne y y then nan
+    else (if lt b zero then nan
+    else (if eq b one then one
+    else (if eq y zero then one
+    else (if eq b zero then (if lt zero y then zero else inf false)
+    else (if infinite b then (if lt zero y then inf false else zero)
+    else (if infinite y then (if beq (lt b one) (lt zero y) then zero else inf false)
+    else main_of b y))))))

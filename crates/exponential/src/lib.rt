@@ -1,9 +1,9 @@
-// The power function as document 01's float ground writes it out. The steps are f64, each rounded
-// once in the order written there; only the result is narrowed.
+//! The power function as document 01's float ground writes it out. The steps are f64, each rounded
+//! once in the order written there; only the result is narrowed.
 
 #![tactic(auto)]
 
-ghost use Rattle.std.specs.Prelude.{◌≡◌, map, All, Float, false, cond, ◌&&◌, T, pos, ◌+ℤ◌, ◌<◌, ◌^◌};
+ghost use Rattle.std.specs.Prelude.{◌≡◌, map, All, Float, false, ◌&&◌, T, pos, ◌+ℤ◌, ◌<◌, ◌^◌, if◌then◌else◌};
 ghost use Rattle.std.specs.Float.Ieee.Positive.{positive};
 ghost use Rattle.std.specs.Float.{binary32, binary64, inf};
 ghost use Rattle.std.specs.Float.Ieee.{lt, ne, fits, of_int, minus};
@@ -32,15 +32,15 @@ fn unbiased(b: u64) -> f64
     f64::from_bits(0x4330_0000_0000_0000 + b) - 4503599627371519.0
 }
 
-// What ln is worked out from: u is f * 2^e, with f from 0.75 and below 1.5.
+/// What ln is worked out from: u is f * 2^e, with f from 0.75 and below 1.5.
 #[derive(Clone, Copy)]
 pub struct Parts {
     pub f: f64,
     pub e: f64,
 }
 
-// The digits of u's pattern are those of f, and its exponent is e + 1023. The first digit after the
-// point says whether f is 1.5 at least; then f is halved by the exponent of its pattern.
+/// The digits of u's pattern are those of f, and its exponent is e + 1023. The first digit after the
+/// point says whether f is 1.5 at least; then f is halved by the exponent of its pattern.
 pub fn parts_of(u: f64) -> Parts
     requires is_single { T (fits binary32 u) }
     requires is_positive { T (positive u) }
@@ -125,7 +125,7 @@ fn biased_floor(q: f64) -> f64
     w
 }
 
-// What exp is worked out from: t is r + g * LN2, and power is 2^g.
+/// What exp is worked out from: t is r + g * LN2, and power is 2^g.
 #[derive(Clone, Copy)]
 pub struct Reduced {
     pub r: f64,
@@ -215,7 +215,7 @@ fn is_infinite(x: f32) -> bool
 
 #[tactic(auto, using(ieee::proofs::Specials::inf32_is))]
 fn zero_or_infinity(is_zero: bool) -> f32
-    ensures { result ≡ cond is_zero zero (inf false) }
+    ensures { result ≡ (if is_zero then zero else inf false) }
 {
     if is_zero {
         return 0.0f32;
@@ -302,7 +302,7 @@ fn powers_apart<const N: usize>(b: [f32; N], y: [f32; N]) -> [f32; N]
     lanes::pairwise(b, y, pow)
 }
 
-// The powers of N bases, each by the exponent at its place. They go in step where none is a special case, so that none waits for another.
+/// The powers of N bases, each by the exponent at its place. They go in step where none is a special case, so that none waits for another.
 pub fn powers<const N: usize>(b: [f32; N], y: [f32; N]) -> [f32; N]
     requires { N < 2 ^ 59 }
     ensures { result ≡ zip2 pow_of b.entry y.entry }
@@ -313,8 +313,8 @@ pub fn powers<const N: usize>(b: [f32; N], y: [f32; N]) -> [f32; N]
     powers_apart(b, y)
 }
 
-// The powers of N bases and of N others. One or two go in step with as many others where none is a special case, the series of
-// the one behind those of the other: they alone are a chain that leaves a processor idle, which more of them keep busy.
+/// The powers of N bases and of N others. One or two go in step with as many others where none is a special case, the series of
+/// the one behind those of the other: they alone are a chain that leaves a processor idle, which more of them keep busy.
 pub fn powers_of_both<const N: usize>(
     b: [f32; N],
     y: [f32; N],

@@ -1,5 +1,5 @@
-// Reads a panel file on standard input and writes the report on it to standard output: document
-// 01's program. Only a file that was read to its end is reported on.
+//! Reads a panel file on standard input and writes the report on it to standard output: document
+//! 01's program. Only a file that was read to its end is reported on.
 
 #![tactic(auto)]
 

@@ -10,11 +10,11 @@ use Rattle.std.proofs.Common.{Option, Some, None}
 use Rattle.stream.specs.declared.Builder.{Builder}
 use Rattle.stream.specs.declared.Need.{Need}
 use Rattle.stream.specs.Stream.{is_empty, need_of}
-use Rattle.lowering.specs.Entries.{elements_of}
+use Rattle.conic_writer.specs.Entries.{elements_of}
 use Rattle.calls.specs.declared.Call.TheVariants.{ConicTo}
 use Rattle.calls.specs.Calls.{entries_of}
 use Rattle.shape.specs.declared.RoundSuperellipse.{RoundSuperellipse}
-use Rattle.contour.specs.Entries.{outline_entries}
+use Rattle.outline_need.specs.Entries.{outline_entries}
 use Rattle.ffi_shape.specs.Layout.{shape_at}
 use Rattle.ffi_path.specs.Lent.{record_in, Left, left}
 use Rattle.ffi_path.proofs.Lending.{record_is, no_record}

@@ -1,16 +1,16 @@
 -- What the exported functions on outlines answer: an outline drawn, what an outline or a conic needs, and whether the outline and the touch area of a
 -- shape keep together. Shapes and records stand in lent numbers. Definitions only.
-use Rattle.std.specs.Prelude.{cond, ◌&&◌, List, [], ◌∷◌, ℕ, length, eqb, Float}
+use Rattle.std.specs.Prelude.{◌&&◌, List, [], ◌∷◌, ℕ, length, Float, if◌then◌else◌, ◌==◌}
 use Rattle.geometry.specs.declared.Point.{Point}
 use Rattle.stream.specs.declared.Need.{Need}
 use Rattle.stream.specs.Stream.{State, is_empty, need_of}
-use Rattle.lowering.specs.Entries.{elements_of}
+use Rattle.conic_writer.specs.Entries.{elements_of}
 use Rattle.calls.specs.declared.Call.TheVariants.{ConicTo}
 use Rattle.calls.specs.Calls.{entries_of}
-use Rattle.contour.specs.Entries.{outline_entries}
+use Rattle.outline_need.specs.Entries.{outline_entries}
 use Rattle.outline.specs.declared.BuildingCall.TheVariants.{AddTo}
 use Rattle.outline.specs.Step.{step}
-use Rattle.inspection.specs.Inspection.{consistent_of}
+use Rattle.consistency.specs.Inspection.{consistent_of}
 use Rattle.ffi_shape.specs.Layout.{shape_at, bounds_at}
 use Rattle.ffi_path.specs.Lent.{builder_at, fitting, wrong_length, Left, left, lent_by}
 
@@ -19,7 +19,7 @@ abbrev pub outlined : List Float → List ℕ → List Float → List ℕ → Li
 outlined shape counts places vs fs = lent_by (λ (s : State). step s (AddTo (shape_at shape))) counts places vs fs
 
 unfoldable pub add_of : List Float → List ℕ → List Float → List ℕ → List Float → Left
-add_of shape counts places vs fs = cond (eqb (length shape) 89) (outlined shape counts places vs fs) (left wrong_length counts places vs fs)
+add_of shape counts places vs fs = if length shape == 89 then outlined shape counts places vs fs else left wrong_length counts places vs fs
 
 -- the number that is returned, and what is in the slice lent for a need
 pub record Needed : Type 0 where
@@ -35,16 +35,16 @@ numbers_of n = n.verbs ∷ n.points ∷ []
 
 -- what an outline adds to a record's counts
 unfoldable pub outline_need_of : List Float → List ℕ → Needed
-outline_need_of shape old = cond (eqb (length shape) 89 && eqb (length old) 2) (needed 0 (numbers_of (need_of (elements_of (outline_entries (shape_at shape)))))) (needed wrong_length old)
+outline_need_of shape old = if length shape == 89 && length old == 2 then needed 0 (numbers_of (need_of (elements_of (outline_entries (shape_at shape))))) else needed wrong_length old
 
 -- what a conic adds to them, with the opening move of an empty path
 unfoldable pub conic_need_of : List ℕ → List Float → Point → Point → Float → List ℕ → Needed
 conic_need_of counts places ctrl to weight old =
     let b = builder_at counts places in
-    cond (eqb (length old) 2 && fitting (length counts) (length places))
-    (needed 0 (numbers_of (need_of (elements_of (entries_of (is_empty b) b.pen (ConicTo ctrl to weight))))))
-    (needed wrong_length old)
+    if length old == 2 && fitting (length counts) (length places)
+    then needed 0 (numbers_of (need_of (elements_of (entries_of (is_empty b) b.pen (ConicTo ctrl to weight)))))
+    else needed wrong_length old
 
 -- 1 where the outline and the touch area of a shape, made for the bounds in the sizes, keep together, 0 where not
 unfoldable pub consistency_of : List Float → List Float → ℕ
-consistency_of sizes shape = cond (eqb (length sizes) 12 && eqb (length shape) 89) (cond (consistent_of (bounds_at sizes) (shape_at shape)) 1 0) wrong_length
+consistency_of sizes shape = if length sizes == 12 && length shape == 89 then (if consistent_of (bounds_at sizes) (shape_at shape) then 1 else 0) else wrong_length

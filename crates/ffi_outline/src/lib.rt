@@ -1,6 +1,6 @@
-// Outlines for programs in C and Rust: drawing one, what an outline or a conic needs, and whether the
-// outline and the touch area of a shape keep together. Shapes stand in 89 floats that the caller lends,
-// records in three whole numbers and four floats.
+//! Outlines for programs in C and Rust: drawing one, what an outline or a conic needs, and whether the
+//! outline and the touch area of a shape keep together. Shapes stand in 89 floats that the caller lends,
+//! records in three whole numbers and four floats.
 
 #![tactic(auto)]
 
@@ -10,15 +10,15 @@ ghost use Rattle.ffi_path.specs.Lent.{left};
 ghost use Rattle.ffi_outline.specs.Outlines.{add_of, needed, numbers_of, outline_need_of, conic_need_of, consistency_of};
 
 use calls::Call;
-use ffi::WRONG_LENGTH;
+use ffi_floats::WRONG_LENGTH;
 use ffi_shape::{SHAPE_LENGTH, SIZES_LENGTH};
 use geometry::Point;
-use lowering::Written;
+use conic_writer::Written;
 use stream::Need;
 
 const NEED_LENGTH: usize = 2;
 
-// Draws the outline of a shape behind what the record holds: 0, 1 or 5. It has no joint word.
+/// Draws the outline of a shape behind what the record holds: 0, 1 or 5. It has no joint word.
 pub fn shackletongue_add_to(
     shape: &[f32],
     counts: &mut [u64],
@@ -46,7 +46,7 @@ fn store_need(need: &mut [u64], n: Need)
     need[1] = n.points as u64;
 }
 
-// The verbs and the points that the outline of a shape adds.
+/// The verbs and the points that the outline of a shape adds.
 pub fn shackletongue_outline_need(shape: &[f32], need: &mut [u64]) -> u32
     ensures { needed result need.new ≡ outline_need_of shape.now need.old }
 {
@@ -56,11 +56,11 @@ pub fn shackletongue_outline_need(shape: &[f32], need: &mut [u64]) -> u32
     if need.len() != NEED_LENGTH {
         return WRONG_LENGTH;
     }
-    store_need(need, contour::need(ffi_shape::shape_at(shape)));
+    store_need(need, outline_need::need(ffi_shape::shape_at(shape)));
     0
 }
 
-// The verbs and the points that a conic adds to the record, with the opening move of an empty one.
+/// The verbs and the points that a conic adds to the record, with the opening move of an empty one.
 pub fn shackletongue_conic_need(
     counts: &[u64],
     places: &[f32],
@@ -84,8 +84,8 @@ pub fn shackletongue_conic_need(
     0
 }
 
-// 1 where no center of the shape lies outside the bounds and every point of its outline is finite, else
-// 0. The bounds are the first four of the floats that the shape was made of.
+/// 1 where no center of the shape lies outside the bounds and every point of its outline is finite, else
+/// 0. The bounds are the first four of the floats that the shape was made of.
 pub fn shackletongue_is_consistent(sizes: &[f32], shape: &[f32]) -> u32
     ensures { result ≡ consistency_of sizes.now shape.now }
 {
@@ -95,5 +95,5 @@ pub fn shackletongue_is_consistent(sizes: &[f32], shape: &[f32]) -> u32
     let Some(shape) = shape.as_array::<SHAPE_LENGTH>() else {
         return WRONG_LENGTH;
     };
-    u32::from(inspection::is_consistent(ffi_shape::bounds_at(sizes), ffi_shape::shape_at(shape)))
+    u32::from(consistency::is_consistent(ffi_shape::bounds_at(sizes), ffi_shape::shape_at(shape)))
 }

@@ -1,5 +1,5 @@
 -- What the exported functions on panel files answer and leave in what is lent. Definitions only.
-use Rattle.std.specs.Prelude.{cond, ◌&&◌, List, [], ◌∷◌, ℕ, length, get_or, set, eqb, Float}
+use Rattle.std.specs.Prelude.{◌&&◌, List, [], ◌∷◌, ℕ, length, get_or, set, Float, if◌then◌else◌, ◌==◌}
 use Rattle.geometry.specs.declared.Point.{Point}
 use Rattle.stream.specs.Stream.{put, floats_in}
 use Rattle.panel_file.specs.declared.Record.{Record}
@@ -49,9 +49,9 @@ record_left (refused n at) place fs = left n (set place 0 at) fs
 -- the record at the offset that stands in the place
 unfoldable pub record_of : List ℕ → List ℕ → List Float → Left Float
 record_of file place fs =
-    cond (eqb (length place) 2 && eqb (length fs) 12)
-    (record_left (record_at file (get_or place 0 0)) place fs)
-    (left wrong_length place fs)
+    if length place == 2 && length fs == 12
+    then record_left (record_at file (get_or place 0 0)) place fs
+    else left wrong_length place fs
 
 -- ---- touches
 
@@ -62,7 +62,7 @@ place_left (done nowhere) place = answered none place
 place_left (refused n at) place = answered n (at ∷ [])
 
 unfoldable pub place_of_touch : List ℕ → Point → List ℕ → Answered
-place_of_touch file p place = cond (eqb (length place) 1) (place_left (touch_of file p) place) (answered wrong_length place)
+place_of_touch file p place = if length place == 1 then place_left (touch_of file p) place else answered wrong_length place
 
 -- how many touches there are, or the offset of the first broken record, goes to the place
 unfoldable pub count_left : AllLeft → Left ℕ
@@ -71,6 +71,6 @@ count_left (all_left (refused n at) results) = left n (at ∷ []) results
 
 unfoldable pub places_of_touches : List ℕ → List ℕ → List ℕ → Left ℕ
 places_of_touches file results place =
-    cond (eqb (length results) 5461 && eqb (length place) 1)
-    (count_left (touch_all_of file results))
-    (left wrong_length place results)
+    if length results == 5461 && length place == 1
+    then count_left (touch_all_of file results)
+    else left wrong_length place results

@@ -1,5 +1,5 @@
-// Panel files for programs in C and Rust: the records one by one, and where touches go. A place is
-// whole numbers that the caller lends: an offset, an index or a count goes there.
+//! Panel files for programs in C and Rust: the records one by one, and where touches go. A place is
+//! whole numbers that the caller lends: an offset, an index or a count goes there.
 
 #![tactic(auto)]
 
@@ -7,7 +7,7 @@ ghost use Rattle.std.specs.Prelude.{◌≡◌, length};
 ghost use Rattle.octant.specs.Octant.{point};
 ghost use Rattle.ffi_panel.specs.Asking.{answered, left, kind_number, record_floats, record_of, place_of_touch, places_of_touches};
 
-use ffi::{NONE, WRONG_LENGTH};
+use ffi_floats::{NONE, WRONG_LENGTH};
 use geometry::Point;
 use panel_file::{Button, Record};
 use stream::put_point;
@@ -52,9 +52,9 @@ fn store_record(floats: &mut [f32], record: Record) -> u64
     }
 }
 
-// The record at the offset in place[0]: then place is the offset of the next one and the kind, 1 button,
-// 2 touch, 0 at the end of the file; its 12 or 2 floats go to the front of floats. With a 7,
-// place[0] is the offset of the first broken record.
+/// The record at the offset in place[0]: then place is the offset of the next one and the kind, 1 button,
+/// 2 touch, 0 at the end of the file; its 12 or 2 floats go to the front of floats. With a 7,
+/// place[0] is the offset of the first broken record.
 pub fn shackletongue_record(file: &[u8], place: &mut [u64], floats: &mut [f32]) -> u32
     ensures { left result place.new floats.new ≡ record_of file.now place.old floats.old }
 {
@@ -81,8 +81,8 @@ pub fn shackletongue_record(file: &[u8], place: &mut [u64], floats: &mut [f32]) 
     }
 }
 
-// The index of the first button that contains the point goes to place[0]. 101 where the touch goes
-// nowhere; with a 7, place[0] is the offset of the first broken record.
+/// The index of the first button that contains the point goes to place[0]. 101 where the touch goes
+/// nowhere; with a 7, place[0] is the offset of the first broken record.
 pub fn shackletongue_touch(file: &[u8], x: f32, y: f32, place: &mut [u64]) -> u32
     ensures { answered result place.new ≡ place_of_touch file.now (point x y) place.old }
 {
@@ -102,9 +102,9 @@ pub fn shackletongue_touch(file: &[u8], x: f32, y: f32, place: &mut [u64]) -> u3
     }
 }
 
-// `shackletongue_touch` for every touch of the file, in file order, each shape made once: the indices
-// go to the front of the 5,461 results, 0xffffffff for nowhere, and how many there are to place[0]. With
-// a 7, place[0] is the offset of the first broken record.
+/// `shackletongue_touch` for every touch of the file, in file order, each shape made once: the indices
+/// go to the front of the 5,461 results, 0xffffffff for nowhere, and how many there are to place[0]. With
+/// a 7, place[0] is the offset of the first broken record.
 pub fn shackletongue_touch_all(file: &[u8], results: &mut [u32], place: &mut [u64]) -> u32
     ensures { left result place.new results.new ≡ places_of_touches file.now results.old place.old }
 {

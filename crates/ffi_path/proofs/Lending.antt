@@ -10,7 +10,7 @@ use lib.Seq.{sets, sets-eq, drop-length}
 use lib.Dec.{eqb}
 use lib.Ieee.{Float}
 use Rattle.std.proofs.Common.{Option, Some, None, Result, Err}
-use Rattle.lowering.specs.declared.Written.{Written}
+use Rattle.conic_writer.specs.declared.Written.{Written}
 use Rattle.stream.specs.declared.Builder.{Builder}
 use Rattle.stream.proofs.Tests.{and_left, and_right, and-false}
 use Rattle.stream.specs.Stream.{State, state}

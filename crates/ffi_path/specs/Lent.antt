@@ -1,6 +1,6 @@
 -- A building call on a record that stands in lent numbers: three whole numbers, which are the verb count, the point count and a joint word, and four
 -- floats, which are the contour's start and the pen. Definitions only.
-use Rattle.std.specs.Prelude.{◌≡◌, Bool, cond, ◌&&◌, List, [], ◌∷◌, ℕ, length, get_or, eqb, Float, Option, Some, None}
+use Rattle.std.specs.Prelude.{◌≡◌, Bool, ◌&&◌, List, [], ◌∷◌, ℕ, length, get_or, Float, Option, Some, None, if◌then◌else◌, ◌==◌}
 use Rattle.std.specs.Float.{nan}
 use Rattle.geometry.specs.declared.Point.{Point}
 use Rattle.stream.specs.declared.Builder.{Builder}
@@ -31,7 +31,7 @@ places_of b = b.start.x ∷ b.start.y ∷ b.pen.x ∷ b.pen.y ∷ []
 
 -- slices of these lengths hold a record
 unfoldable pub fitting : ℕ → ℕ → Bool
-fitting counts places = eqb counts 3 && eqb places 4
+fitting counts places = counts == 3 && places == 4
 
 -- the lengths of slices that hold a record
 abbrev pub HoldsRecord : List ℕ → List Float → Type 0
@@ -39,7 +39,7 @@ HoldsRecord counts places = (length counts ≡ 3) × (length places ≡ 4)
 
 -- the record in slices, where they hold one
 unfoldable pub record_in : List ℕ → List Float → Option Builder
-record_in counts places = cond (fitting (length counts) (length places)) (Some (builder_at counts places)) None
+record_in counts places = if fitting (length counts) (length places) then Some (builder_at counts places) else None
 
 -- ---- what a call answers
 
@@ -61,16 +61,16 @@ left n counts places vs fs = record { number = n; counts = counts; places = plac
 -- an accepted call leaves its record and its joint word, which is 0 where it has none; a refused one leaves every slice as it was
 unfoldable pub left_by : Outcome → List ℕ → List Float → Left
 left_by o counts places =
-    cond (eqb o.number 0)
-    (left 0 (counts_of o.state.builder o.word) (places_of o.state.builder) o.state.verbs o.state.floats)
-    (left o.number counts places o.state.verbs o.state.floats)
+    if o.number == 0
+    then left 0 (counts_of o.state.builder o.word) (places_of o.state.builder) o.state.verbs o.state.floats
+    else left o.number counts places o.state.verbs o.state.floats
 
 -- a call of any kind, given by what it makes of a state
 abbrev pub lent_by : (State → Outcome) → List ℕ → List Float → List ℕ → List Float → Left
 lent_by f counts places vs fs =
-    cond (fitting (length counts) (length places))
-    (left_by (f (state (builder_at counts places) vs fs)) counts places)
-    (left wrong_length counts places vs fs)
+    if fitting (length counts) (length places)
+    then left_by (f (state (builder_at counts places) vs fs)) counts places
+    else left wrong_length counts places vs fs
 
 -- one of the six
 unfoldable pub lent_step : Call → List ℕ → List Float → List ℕ → List Float → Left

@@ -1,7 +1,7 @@
-// The building calls for programs in C and Rust: the record stands in numbers that the caller lends,
-// three whole ones (verb count, point count, joint word) and four floats (the contour's start, the
-// pen), beside the two buffers. Every call returns 0, or document 01's number, and then no slice has
-// changed.
+//! The building calls for programs in C and Rust: the record stands in numbers that the caller lends,
+//! three whole ones (verb count, point count, joint word) and four floats (the contour's start, the
+//! pen), beside the two buffers. Every call returns 0, or document 01's number, and then no slice has
+//! changed.
 
 #![tactic(auto)]
 
@@ -10,12 +10,12 @@ ghost use Rattle.calls.specs.Calls.{conic_outcome_of};
 ghost use Rattle.ffi_path.specs.Lent.{point, HoldsRecord, record_in, counts_of, places_of, left, left_by, lent_step};
 
 use calls::{BuildError, Call};
-use ffi::WRONG_LENGTH;
+use ffi_floats::WRONG_LENGTH;
 use geometry::Point;
-use lowering::Written;
+use conic_writer::Written;
 use stream::Builder;
 
-// The record in the lent numbers, where the slices have the lengths of one.
+/// The record in the lent numbers, where the slices have the lengths of one.
 pub fn load(counts: &[u64], places: &[f32]) -> Option<Builder>
     ensures { result ≡ record_in counts.now places.now }
 {
@@ -53,7 +53,7 @@ fn store(counts: &mut [u64], places: &mut [f32], w: Written)
     places[3] = b.pen.y;
 }
 
-// The number of an answer. An accepted call's record and joint word go to the lent numbers.
+/// The number of an answer. An accepted call's record and joint word go to the lent numbers.
 pub fn settle(counts: &mut [u64], places: &mut [f32], a: Result<Written, BuildError>) -> u32
     requires { HoldsRecord counts.old places.old }
     ensures { (vs : List ℕ) (fs : List Float) → left result counts.new places.new vs fs ≡ left_by (conic_outcome_of a vs fs) counts.old places.old }
@@ -67,8 +67,8 @@ pub fn settle(counts: &mut [u64], places: &mut [f32], a: Result<Written, BuildEr
     }
 }
 
-// Six functions, and no generic one: C needs each with its own parameters, and what a closure lends is not known after its
-// call where it may not have been called (tried).
+/// Six functions, and no generic one: C needs each with its own parameters, and what a closure lends is not known after its
+/// call where it may not have been called (tried).
 pub fn shackletongue_move_to(
     counts: &mut [u64],
     places: &mut [f32],
@@ -124,7 +124,7 @@ pub fn shackletongue_quad_to(
     settle(counts, places, a)
 }
 
-// The joint word is the third of the counts.
+/// The joint word is the third of the counts.
 pub fn shackletongue_conic_to(
     counts: &mut [u64],
     places: &mut [f32],

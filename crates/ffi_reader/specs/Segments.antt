@@ -1,6 +1,6 @@
 -- What the exported functions that read a path answer: the segment at a cursor, and the box. Record, cursor, segment and box stand in lent numbers.
 -- Definitions only.
-use Rattle.std.specs.Prelude.{cond, ◌&&◌, List, [], ◌∷◌, ℕ, length, get_or, eqb, Float, Option, Some, None}
+use Rattle.std.specs.Prelude.{◌&&◌, List, [], ◌∷◌, ℕ, length, get_or, Float, Option, Some, None, if◌then◌else◌, ◌==◌}
 use Rattle.stream.specs.Stream.{state, put, verb_of, floats_of}
 use Rattle.reader.specs.declared.Cursor.{Cursor}
 use Rattle.reader.specs.declared.Rect.{Rect}
@@ -37,9 +37,9 @@ read_by (refused (at_verb n v)) cs fs = read n cs fs
 -- a record of 3 and 4 numbers, a cursor of 3, a segment of 6
 unfoldable pub read_of : List ℕ → List Float → List ℕ → List Float → List ℕ → List Float → Read
 read_of counts places vs fs cs old =
-    cond (eqb (length cs) 3 && (eqb (length old) 6 && fitting (length counts) (length places)))
-    (read_by (read_at (state (builder_at counts places) vs fs) (cursor_at cs)) cs old)
-    (read wrong_length cs old)
+    if length cs == 3 && (length old == 6 && fitting (length counts) (length places))
+    then read_by (read_at (state (builder_at counts places) vs fs) (cursor_at cs)) cs old
+    else read wrong_length cs old
 
 -- ---- the box
 
@@ -69,6 +69,6 @@ box_by (refused (at_verb n v)) rs ps = boxed n rs (v ∷ [])
 -- a record of 3 and 4 numbers, a box of 4, a place of 1
 unfoldable pub box_of : List ℕ → List Float → List ℕ → List Float → List Float → List ℕ → Boxed
 box_of counts places vs fs rs ps =
-    cond (eqb (length rs) 4 && (eqb (length ps) 1 && fitting (length counts) (length places)))
-    (box_by (bounds_of (state (builder_at counts places) vs fs)) rs ps)
-    (boxed wrong_length rs ps)
+    if length rs == 4 && (length ps == 1 && fitting (length counts) (length places))
+    then box_by (bounds_of (state (builder_at counts places) vs fs)) rs ps
+    else boxed wrong_length rs ps

@@ -1,5 +1,5 @@
-// Reading for programs in C and Rust: the segment at a cursor, and the box. Record, cursor, segment and
-// box stand in numbers that the caller lends.
+//! Reading for programs in C and Rust: the segment at a cursor, and the box. Record, cursor, segment and
+//! box stand in numbers that the caller lends.
 
 #![tactic(auto)]
 
@@ -8,7 +8,7 @@ ghost use Rattle.reader.specs.Reading.{ok, item_of, answer_of};
 ghost use Rattle.reader.specs.Bounds.{bounds_answer};
 ghost use Rattle.ffi_reader.specs.Segments.{read, cursor_numbers, cursor_at, read_by, read_of, boxed, rect_floats, box_by, box_of};
 
-use ffi::{NONE, WRONG_LENGTH};
+use ffi_floats::{NONE, WRONG_LENGTH};
 use reader::{Cursor, ReadError, Rect, Segment};
 
 // The lengths that C lends (include/shackletongue.h).
@@ -89,8 +89,8 @@ fn settle_reading(
     }
 }
 
-// Reads the segment at the cursor: 0, 1 or 6. The cursor moves to the next segment and gets the kind of
-// this one (0 move, 1 line, 2 quad, 3 cubic, 4 close, 5 end).
+/// Reads the segment at the cursor: 0, 1 or 6. The cursor moves to the next segment and gets the kind of
+/// this one (0 move, 1 line, 2 quad, 3 cubic, 4 close, 5 end).
 pub fn shackletongue_read(
     counts: &[u64],
     places: &[f32],
@@ -146,8 +146,8 @@ fn settle_box(rect: &mut [f32], place: &mut [u64], a: Result<Option<Rect>, ReadE
     }
 }
 
-// The least box round all points: 0, 1 or 6, and then the index of the verb goes to the place. 101 where
-// there is no finite point.
+/// The least box round all points: 0, 1 or 6, and then the index of the verb goes to the place. 101 where
+/// there is no finite point.
 pub fn shackletongue_box(
     counts: &[u64],
     places: &[f32],

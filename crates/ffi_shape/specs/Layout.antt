@@ -1,5 +1,5 @@
 -- How a shape, and the bounds and radii that it is made of, stand in lent floats. Definitions only.
-use Rattle.std.specs.Prelude.{cond, List, [], ◌∷◌, ◌++◌, ℕ, ◌+◌, get_or, Float}
+use Rattle.std.specs.Prelude.{List, [], ◌∷◌, ◌++◌, ℕ, ◌+◌, get_or, Float, if◌then◌else◌}
 use Rattle.std.specs.Float.{nan}
 use Rattle.std.specs.Float.Ieee.{ne}
 use Rattle.geometry.specs.declared.Point.{Point}
@@ -38,7 +38,7 @@ shape_floats s =
     ++ quadrant_floats s.bottom_right
     ++ quadrant_floats s.bottom_left
     ++ quadrant_floats s.top_left
-    ++ cond s.all_corners_same one zero ∷ []
+    ++ (if s.all_corners_same then one else zero) ∷ []
 
 -- ---- from floats, in the same order, from index i on
 

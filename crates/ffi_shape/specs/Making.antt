@@ -1,5 +1,5 @@
 -- What the two exported functions on shapes answer. Definitions only.
-use Rattle.std.specs.Prelude.{Bool, true, cond, ◌&&◌, List, ◌++◌, ℕ, zero, suc, ◌+◌, ◌*◌, ◌/◌, ◌%◌, length, eqb, Float}
+use Rattle.std.specs.Prelude.{Bool, true, ◌&&◌, List, ◌++◌, ℕ, zero, suc, ◌+◌, ◌*◌, ◌/◌, ◌%◌, length, Float, if◌then◌else◌, ◌==◌}
 use Rattle.geometry.specs.Point.{sub_of, div_of}
 use Rattle.geometry.specs.declared.Point.{Point}
 use Rattle.shape.specs.Refusal.{Outcome, made, refused, new_of}
@@ -25,7 +25,7 @@ left_by (refused n) old = left n old
 
 -- a shape made of 12 floats into 89, with document 01's numbers
 unfoldable pub make_of : List Float → List Float → Made
-make_of sizes old = cond (eqb (length sizes) 12 && eqb (length old) 89) (left_by (new_of (bounds_at sizes) (radii_at sizes)) old) (left wrong_length old)
+make_of sizes old = if length sizes == 12 && length old == 89 then left_by (new_of (bounds_at sizes) (radii_at sizes)) old else left wrong_length old
 
 -- n corners from the k-th on hold the point
 unfoldable pub corners_hold : List Float → Point → Bool → ℕ → ℕ → Bool
@@ -42,11 +42,11 @@ own_points fs i p = point_floats (own_at fs i p) ++ point_floats (own_at fs (i +
 -- h of each of the numbers 0 to 3 whose bit is set
 unfoldable pub asked_hold : (ℕ → Bool) → ℕ → Bool
 asked_hold h asked =
-    cond (eqb (asked % 2) 1) (h 0) true
-    && (cond (eqb (asked / 2 % 2) 1) (h 1) true
-    && (cond (eqb (asked / 4 % 2) 1) (h 2) true
-    && (cond (eqb (asked / 8 % 2) 1) (h 3) true && true)))
+    (if asked % 2 == 1 then h 0 else true)
+    && ((if asked / 2 % 2 == 1 then h 1 else true)
+    && ((if asked / 4 % 2 == 1 then h 2 else true)
+    && ((if asked / 8 % 2 == 1 then h 3 else true) && true)))
 
 -- 1 where the shape contains the point, 0 where not
 unfoldable pub holds_of : List Float → Point → ℕ
-holds_of fs p = cond (eqb (length fs) 89) (cond (contains_of (shape_at fs) p) 1 0) wrong_length
+holds_of fs p = if length fs == 89 then (if contains_of (shape_at fs) p then 1 else 0) else wrong_length

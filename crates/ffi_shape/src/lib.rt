@@ -1,5 +1,5 @@
-// Shapes for programs in C and Rust: a shape is made once, into floats that the caller lends, and asked
-// as often as is liked.
+//! Shapes for programs in C and Rust: a shape is made once, into floats that the caller lends, and asked
+//! as often as is liked.
 
 #![tactic(auto)]
 
@@ -11,7 +11,7 @@ ghost use Rattle.stream.specs.Stream.{put};
 ghost use Rattle.ffi_shape.specs.Layout.{octant_floats, quadrant_floats, shape_floats, octant_at, quadrant_at, shape_at, bounds_at, radii_at};
 ghost use Rattle.ffi_shape.specs.Making.{left, make_of, own_points, asked_hold, corners_hold, holds_of};
 
-use ffi::WRONG_LENGTH;
+use ffi_floats::WRONG_LENGTH;
 use geometry::Point;
 use octant::Octant;
 use quadrant::Quadrant;
@@ -19,7 +19,7 @@ use shape::{Bounds, CornerRadii, RoundSuperellipse};
 use std::simd::prelude::*;
 use stream::{point_at, put_point};
 
-// How many floats a shape is made of, and how many it is.
+/// How many floats a shape is made of, and how many it is.
 pub const SIZES_LENGTH: usize = 12;
 
 pub const SHAPE_LENGTH: usize = 89;
@@ -100,8 +100,8 @@ pub fn shape_at(shape: &[f32; 89]) -> RoundSuperellipse
     }
 }
 
-// The floats of a line have no length that was tested, and one that is missing is a NaN: they are read by operands' `bounds`
-// and `radii`.
+/// The floats of a line have no length that was tested, and one that is missing is a NaN: they are read by operands' `bounds`
+/// and `radii`.
 #[tactic(auto, unfolding(crate::specs::Layout::bounds_at))]
 pub fn bounds_at(sizes: &[f32]) -> Bounds
     requires { length sizes.now ≡ 12 }
@@ -126,8 +126,8 @@ fn radii_at(sizes: &[f32]) -> CornerRadii
     }
 }
 
-// Makes a shape of min, max and the radii top left, top right, bottom left, bottom right, into 89
-// floats. 0, or document 01's number; the shape's floats change only with a 0.
+/// Makes a shape of min, max and the radii top left, top right, bottom left, bottom right, into 89
+/// floats. 0, or document 01's number; the shape's floats change only with a 0.
 #[tactic(auto, using(crate::proofs::Answers::wrong_sizes, crate::proofs::Answers::wrong_shape))]
 pub fn shackletongue_shape(sizes: &[f32], shape: &mut [f32]) -> u32
     ensures { left result shape.new ≡ make_of sizes.now shape.old }
@@ -239,7 +239,7 @@ fn same_holds(shape: &[f32; 89], p: Point) -> bool
     round_holds(shape, 0, n)
 }
 
-// 1 where the shape contains the point, 0 where not.
+/// 1 where the shape contains the point, 0 where not.
 pub fn shackletongue_contains(shape: &[f32], x: f32, y: f32) -> u32
     ensures { result ≡ holds_of shape.now (point x y) }
 {

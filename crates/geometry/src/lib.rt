@@ -1,5 +1,5 @@
-// Points of the plane and their arithmetic in binary32: document 01's rules for the Rust's Vec2.
-// Every operation is rounded once, in the order written.
+//! Points of the plane and their arithmetic in binary32: document 01's rules for the Rust's Vec2.
+//! Every operation is rounded once, in the order written.
 
 #![tactic(auto)]
 
@@ -115,8 +115,8 @@ impl Neg for Point {
 }
 
 impl Point {
-    // As ieee's `abs`, by v where it is above 0 and else by 0 - v, of both coordinates in one vector: a NaN is not set apart, and
-    // the comparison does not wait for the difference.
+    /// As ieee's `abs`, by v where it is above 0 and else by 0 - v, of both coordinates in one vector: a NaN is not set apart, and
+    /// the comparison does not wait for the difference.
     pub fn abs(self) -> Point
         ensures { result ≡ abs_point self }
     {
@@ -154,7 +154,7 @@ impl Point {
         ieee::sqrt(self.length_squared())
     }
 
-    // The reciprocal first, then a product.
+    /// The reciprocal first, then a product.
     #[tactic(auto, unfolding(crate::specs::Point::normalize_of))]
     pub fn normalize(self) -> Point
         ensures { result ≡ normalize_of self }

@@ -1,5 +1,5 @@
 -- The simple operations of document 01's float ground, over both formats: `Float` holds the values of either, so a definition serves each width. Definitions only.
-use Rattle.std.specs.Prelude.{false, cond, Float}
+use Rattle.std.specs.Prelude.{false, Float, if◌then◌else◌}
 use Rattle.std.specs.Float.{nan, inf, fin}
 use Rattle.std.specs.Float.Ieee.{lt, ne}
 
@@ -15,12 +15,12 @@ abs_of (fin s m e) = fin false m e
 
 -- the lesser of two; of a NaN and a number the number; of equals, -0 and +0 among them, the first
 unfoldable pub min_of : Float → Float → Float
-min_of a b = cond (ne a a) b (cond (lt b a) b a)
+min_of a b = if ne a a then b else (if lt b a then b else a)
 
 -- the greater of two; of a NaN and a number the number; of equals, -0 and +0 among them, the first
 unfoldable pub max_of : Float → Float → Float
-max_of a b = cond (ne a a) b (cond (lt a b) b a)
+max_of a b = if ne a a then b else (if lt a b then b else a)
 
 -- lo where x is below it, hi where x is above it, else x itself: a NaN stays a NaN
 unfoldable pub clamp_of : Float → Float → Float → Float
-clamp_of x lo hi = cond (lt x lo) lo (cond (lt hi x) hi x)
+clamp_of x lo hi = if lt x lo then lo else (if lt hi x then hi else x)

@@ -1,5 +1,5 @@
-// Operations of IEEE 754: the changes of width, the square root, and the simple ones that document 01
-// names. Nothing is cast with loss; every public function is total.
+//! Operations of IEEE 754: the changes of width, the square root, and the simple ones that document 01
+//! names. Nothing is cast with loss; every public function is total.
 
 #![tactic(auto)]
 
@@ -18,14 +18,14 @@ pub fn widen(x: f32) -> f64
     std::num::f32_to_f64_with_nan(x)
 }
 
-// Neither an infinity nor a NaN.
+/// Neither an infinity nor a NaN.
 pub fn is_finite(x: f32) -> bool
     ensures { result ≡ finite x }
 {
     -1.0 / 0.0 < x && x < 1.0 / 0.0
 }
 
-// By the pattern, whose sign is cleared: no branch turns on the sign.
+/// By the pattern, whose sign is cleared: no branch turns on the sign.
 pub fn abs(x: f32) -> f32
     ensures { result ≡ abs_of x }
 {
@@ -35,7 +35,7 @@ pub fn abs(x: f32) -> f32
     f32::from_bits(f32::to_bits(x) % 0x8000_0000)
 }
 
-// The library's own, which the definition here says too.
+/// The library's own, which the definition here says too.
 #[tactic(auto, using(crate::proofs::Simple::with_plus))]
 pub fn abs_f64(x: f64) -> f64
     ensures { result ≡ abs_of x }
@@ -43,7 +43,7 @@ pub fn abs_f64(x: f64) -> f64
     x.abs()
 }
 
-// Not the library's, which may answer either of 0 and -0: here the first.
+/// Not the library's, which may answer either of 0 and -0: here the first.
 #[tactic(auto, unfolding(crate::specs::Basic::min_of))]
 pub fn min(a: f32, b: f32) -> f32
     ensures { result ≡ min_of a b }
@@ -57,7 +57,7 @@ pub fn min(a: f32, b: f32) -> f32
     a
 }
 
-// As `min`, the first of 0 and -0.
+/// As `min`, the first of 0 and -0.
 #[tactic(auto, unfolding(crate::specs::Basic::max_of))]
 pub fn max(a: f32, b: f32) -> f32
     ensures { result ≡ max_of a b }
@@ -71,7 +71,7 @@ pub fn max(a: f32, b: f32) -> f32
     a
 }
 
-// Not the library's, which asks that lo is at most hi.
+/// Not the library's, which asks that lo is at most hi.
 #[tactic(auto, unfolding(crate::specs::Basic::clamp_of))]
 pub fn clamp(x: f32, lo: f32, hi: f32) -> f32
     ensures { result ≡ clamp_of x lo hi }
@@ -142,8 +142,8 @@ pub fn narrow(x: f64) -> f32
     f32::from_bits(((bits >> 63) * 0x8000_0000 + p) as u32)
 }
 
-// `narrow` of a number above 2^-126, the least normal f32, and below 2^128 in size, so of no NaN and no infinity: the nearest
-// f32 is told by rounding x's pattern, with no branch, so that several go side by side.
+/// `narrow` of a number above 2^-126, the least normal f32, and below 2^128 in size, so of no NaN and no infinity: the nearest
+/// f32 is told by rounding x's pattern, with no branch, so that several go side by side.
 pub fn narrow_regular(x: f64) -> f32
     requires { regular x ≡ true }
     ensures { result ≡ narrow_of x }
@@ -153,7 +153,7 @@ pub fn narrow_regular(x: f64) -> f32
     f32::from_bits(((bits >> 63) * 0x8000_0000 + p) as u32)
 }
 
-// The language's own root, which the definition here says in whole numbers.
+/// The language's own root, which the definition here says in whole numbers.
 pub fn sqrt(x: f32) -> f32
     ensures { result ≡ sqrt_of binary32 x }
 {

@@ -1,5 +1,5 @@
-// An input as one array of bytes, for the programs that read a whole file: standard input, which `main` hands
-// in, or any other reader.
+//! An input as one array of bytes, for the programs that read a whole file: standard input, which `main` hands
+//! in, or any other reader.
 
 #![tactic(auto)]
 
@@ -8,9 +8,11 @@ ghost use Rattle.std.specs.Prelude.{◌≤◌, length, IfOk};
 use std::io;
 use std::io::Read;
 
-// Reads until the file is full, the input ends or a read fails: how many bytes it put at the start of the
-// file, and how the reading ended. Stays a `while`: a reader's turns are no range, and the library's
-// `read_to_end` fills a Vec, and no lent buffer.
+pub mod lines;
+
+/// Reads until the file is full, the input ends or a read fails: how many bytes it put at the start of the
+/// file, and how the reading ended. Stays a `while`: a reader's turns are no range, and the library's
+/// `read_to_end` fills a Vec, and no lent buffer.
 pub fn fill<R: Read>(input: &mut R, file: &mut [u8]) -> (usize, io::Result<()>)
     ensures { result.0 ≤ length file.old }
 {
@@ -25,8 +27,8 @@ pub fn fill<R: Read>(input: &mut R, file: &mut [u8]) -> (usize, io::Result<()>)
     (held, Ok(()))
 }
 
-// The input to its end, or as much as the file has room for: how many bytes there are, all that there is room for
-// where there may be more.
+/// The input to its end, or as much as the file has room for: how many bytes there are, all that there is room for
+/// where there may be more.
 pub fn read_all<R: Read>(input: &mut R, file: &mut [u8]) -> io::Result<usize>
     ensures { IfOk result (λ held. held ≤ length file.old) }
 {
@@ -34,9 +36,9 @@ pub fn read_all<R: Read>(input: &mut R, file: &mut [u8]) -> io::Result<usize>
     end.map(|()| held)
 }
 
-// What a program does that reports on a file: reads all of the input, has `report` put its text into the
-// room, which tells how long it is, and writes it. Of an input that cannot be read to its end it says so alone. Arrays of
-// the largest size and no Vec: there is no heap.
+/// What a program does that reports on a file: reads all of the input, has `report` put its text into the
+/// room, which tells how long it is, and writes it. Of an input that cannot be read to its end it says so alone. Arrays of
+/// the largest size and no Vec: there is no heap.
 pub fn run<R: Read, F: FnOnce(&[u8], &mut [u8; 393288]) -> usize>(
     rt: &(impl Print + Eprint),
     input: &mut R,

@@ -1,5 +1,5 @@
-// Reads a panel file on standard input and tells of each button whether its outline and its touch
-// area keep together. Only a file that was read to its end is reported on.
+//! Reads a panel file on standard input and tells of each button whether its outline and its touch
+//! area keep together. Only a file that was read to its end is reported on.
 
 #![tactic(auto)]
 
@@ -7,6 +7,6 @@ use std::io;
 
 fn main(rt: HostRuntime) -> io::Result<()> {
     input::run(&rt, &mut rt.stdin(), "inspect", |file, out| {
-        inspection_report::inspect(file, out)
+        consistency_report::inspect(file, out)
     })
 }

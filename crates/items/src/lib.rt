@@ -1,8 +1,8 @@
-// What a line of the program replay's input asks for (docs/REPLAY.md).
+//! What a line of the program replay's input asks for (docs/REPLAY.md).
 
 #![tactic(auto)]
 
-ghost use Rattle.std.specs.Prelude.{◌≡◌, cond, Some, None};
+ghost use Rattle.std.specs.Prelude.{◌≡◌, Some, None, if◌then◌else◌};
 ghost use Rattle.text.specs.Words.{after_word};
 ghost use Rattle.items.specs.Items.{bad_line_text, counts_of, has_words, of_counts, of_record, of_two, of_four, of_floats, of_shape, of_name, has_counts, of_words, item_of, from_floats};
 ghost use Rattle.operands.specs.Operands.{operands_of};
@@ -29,7 +29,7 @@ pub enum Item {
     Contains(Bounds, CornerRadii, Point),
 }
 
-// A line that asks for nothing that there is.
+/// A line that asks for nothing that there is.
 #[derive(Clone, Copy, Debug, PartialEq, Eq)]
 pub struct BadLine;
 
@@ -197,7 +197,7 @@ fn of_operands(name: &[u8], line: &[u8]) -> Option<Item>
 
 // The item, where the line has a word for it.
 fn in_words(line: &[u8], item: Item) -> Option<Item>
-    ensures { result ≡ cond (has_words line.now) (Some item) None }
+    ensures { result ≡ (if has_words line.now then Some item else None) }
 {
     if has_words(line) { Some(item) } else { None }
 }

@@ -1,5 +1,5 @@
-// Numbers side by side in an array, each treated alike: none waits for another, so that a processor works at several at once.
-// How many there are is a parameter.
+//! Numbers side by side in an array, each treated alike: none waits for another, so that a processor works at several at once.
+//! How many there are is a parameter.
 
 #![tactic(auto)]
 
@@ -16,7 +16,7 @@ const LEAST_NORMAL: f64 = 1.1754943508222875e-38;
 
 const TWO_TO_128: f64 = 3.402823669209385e38;
 
-// What f makes of each. Not the array's own `map`, which asks more of callers: that an iterator over the array fits in memory.
+/// What f makes of each. Not the array's own `map`, which asks more of callers: that an iterator over the array fits in memory.
 #[inline(always)]
 pub fn each<A: Copy, B, F: Fn(A) -> B, const N: usize>(x: [A; N], f: F) -> [B; N]
     requires { All (F.pre f) x }
@@ -32,7 +32,7 @@ pub fn each<A: Copy, B, F: Fn(A) -> B, const N: usize>(x: [A; N], f: F) -> [B; N
     )
 }
 
-// What f makes of each two at the same place.
+/// What f makes of each two at the same place.
 #[inline(always)]
 pub fn pairwise<A: Copy, B: Copy, C, F: Fn(A, B) -> C, const N: usize>(
     x: [A; N],
@@ -51,7 +51,7 @@ pub fn pairwise<A: Copy, B: Copy, C, F: Fn(A, B) -> C, const N: usize>(
     )
 }
 
-// Whether f says so of each. By `&`, not `&&`: as many tests, and one branch.
+/// Whether f says so of each. By `&`, not `&&`: as many tests, and one branch.
 pub fn all<A: Copy, F: Fn(A) -> bool, const N: usize>(x: [A; N], f: F) -> bool
     requires { (a : A) → F.pre f a }
     ensures { (p : A → Bool) → ((a : A) (b : Bool) → F.post f a b → b ≡ p a) → result ≡ list_all p x }
@@ -63,8 +63,8 @@ pub fn all<A: Copy, F: Fn(A) -> bool, const N: usize>(x: [A; N], f: F) -> bool
     all
 }
 
-// Whether each is above `low` and below `high`; a NaN is not. By vectors: the compiler takes booleans in arrays apart and puts
-// them together again one by one.
+/// Whether each is above `low` and below `high`; a NaN is not. By vectors: the compiler takes booleans in arrays apart and puts
+/// them together again one by one.
 pub fn all_between<const N: usize>(x: [f32; N], low: f32, high: f32) -> bool
     ensures { result ≡ list_all (λ (a : Float). lt low a && lt a high) x.entry }
 {
@@ -74,7 +74,7 @@ pub fn all_between<const N: usize>(x: [f32; N], low: f32, high: f32) -> bool
     (above & below).to_simd().reduce_and() < 0
 }
 
-// The same of numbers of twice the width: vectors of either are types of their own.
+/// The same of numbers of twice the width: vectors of either are types of their own.
 pub fn all_between_f64<const N: usize>(x: [f64; N], low: f64, high: f64) -> bool
     ensures { result ≡ list_all (λ (a : Float). lt low a && lt a high) x.entry }
 {
@@ -84,7 +84,7 @@ pub fn all_between_f64<const N: usize>(x: [f64; N], low: f64, high: f64) -> bool
     (above & below).to_simd().reduce_and() < 0
 }
 
-// Whether none is this number.
+/// Whether none is this number.
 pub fn all_differ<const N: usize>(x: [f32; N], number: f32) -> bool
     ensures { result ≡ list_all (λ (a : Float). ne a number) x.entry }
 {
@@ -110,7 +110,7 @@ fn narrow_apart<const N: usize>(x: [f64; N]) -> [f32; N]
     each(x, ieee::narrow)
 }
 
-// One test tells whether all are regular, the usual case. Then none of them branches, and a processor rounds them at once.
+/// One test tells whether all are regular, the usual case. Then none of them branches, and a processor rounds them at once.
 pub fn narrow<const N: usize>(x: [f64; N]) -> [f32; N]
     ensures { result ≡ map narrow_of x.entry }
 {

@@ -1,5 +1,5 @@
 -- CORNER_TABLE, and the degree and the join that the Rust's `n_and_xj` reads out of it. Definitions only.
-use Rattle.std.specs.Prelude.{ℕ, ◌+◌, min, cond, List, [], ◌∷◌, pos, get_or, Float}
+use Rattle.std.specs.Prelude.{ℕ, ◌+◌, min, List, [], ◌∷◌, pos, get_or, Float, if◌then◌else◌}
 use Rattle.std.specs.Float.{nan, binary32}
 use Rattle.std.specs.Float.Ieee.{of_bits, of_int, to_unsigned, lt}
 use Rattle.ieee.specs.Basic.{clamp_of}
@@ -65,18 +65,18 @@ left_row_of steps last = min (to_unsigned 64 steps) last
 -- where a ratio stands among the rows: the first six rows are 0.1 apart, the others 0.5
 unfoldable pub table_steps_of : Float → Float
 table_steps_of ratio =
-    cond (lt ratio first_max_ratio)
-    ((ratio ⊖ min_ratio) ⊗ first_step_inverse)
-    ((ratio ⊖ first_max_ratio) ⊗ second_step_inverse ⊕ first_num_records ⊖ one)
+    if lt ratio first_max_ratio
+    then (ratio ⊖ min_ratio) ⊗ first_step_inverse
+    else (ratio ⊖ first_max_ratio) ⊗ second_step_inverse ⊕ first_num_records ⊖ one
 
 -- n_and_xj: past the table's last row a straight line from it, else between the two rows about the ratio
 unfoldable pub n_and_xj_of : Float → NAndXj
 n_and_xj_of ratio =
-    cond (lt second_max_ratio ratio)
-    (let n = third_n_slope ⊗ (ratio ⊖ second_max_ratio) ⊕ corner_at 10 0 in
+    if lt second_max_ratio ratio
+    then (let n = third_n_slope ⊗ (ratio ⊖ second_max_ratio) ⊕ corner_at 10 0 in
     let k_xj = third_kxj_slope ⊗ (ratio ⊖ second_max_ratio) ⊕ corner_at 10 1 in
     record { n = n; xj_over_a = one ⊖ one ⊘ k_xj })
-    (let steps = table_steps_of (clamp_of ratio min_ratio second_max_ratio) in
+    else (let steps = table_steps_of (clamp_of ratio min_ratio second_max_ratio) in
     let left = left_row_of steps 9 in
     let frac = steps ⊖ of_int binary32 (pos left) in
     let n = (one ⊖ frac) ⊗ corner_at left 0 ⊕ frac ⊗ corner_at (left + 1) 0 in

@@ -1,5 +1,5 @@
 -- The octant solver: the Rust's `circle_center_through`, `angle_between` and `compute_octant`, in its order. Definitions only.
-use Rattle.std.specs.Prelude.{cond, Float}
+use Rattle.std.specs.Prelude.{Float, if◌then◌else◌}
 use Rattle.std.specs.Float.{binary32}
 use Rattle.std.specs.Float.Ieee.{of_bits, neg, le}
 use Rattle.ieee.specs.Sqrt.{sqrt_of}
@@ -45,9 +45,9 @@ angle_between_of from to = atan2_of to.y to.x ⊖ atan2_of from.y from.x
 -- compute_octant: a corner whose radius is at most 1e-3 is square, of degree 0; a NaN is not at most it
 unfoldable pub compute_octant_of : Point → Float → Float → Octant
 compute_octant_of center a radius =
-    cond (le radius close_enough)
-    (record { offset = center; se_a = a; se_n = zero; circle_start = point a a; circle_center = point zero zero; circle_max_angle = zero })
-    (let ratio = a ⊗ two ⊘ radius in
+    if le radius close_enough
+    then record { offset = center; se_a = a; se_n = zero; circle_start = point a a; circle_center = point zero zero; circle_max_angle = zero }
+    else (let ratio = a ⊗ two ⊘ radius in
     let g = gap_factor ⊗ radius in
     let fit = n_and_xj_of ratio in
     let n = fit.n in

@@ -1,5 +1,5 @@
-// One eighth of the outline, solved: a superellipse arc that hands over to a circular arc with the same tangent.
-// Binary32 throughout, every operation rounded once, with the Rust's names and in its order.
+//! One eighth of the outline, solved: a superellipse arc that hands over to a circular arc with the same tangent.
+//! Binary32 throughout, every operation rounded once, with the Rust's names and in its order.
 
 #![tactic(auto)]
 
@@ -12,7 +12,7 @@ ghost use Rattle.octant.specs.declared.Unsolved.{Unsolved};
 
 use geometry::Point;
 
-// The radius up to which a corner is square.
+/// The radius up to which a corner is square.
 pub const CLOSE_ENOUGH: f32 = 1e-3;
 
 // 1 - cos(pi/4).
@@ -51,8 +51,8 @@ const THIRD_N_SLOPE: f32 = 1.559_599_4;
 
 const THIRD_KXJ_SLOPE: f32 = 0.522_807_2;
 
-// One eighth of the outline, in the space of a corner with equal radii. A degree below 2 marks a square corner, and no enum does:
-// document 01 has an octant as one record of floats and points.
+/// One eighth of the outline, in the space of a corner with equal radii. A degree below 2 marks a square corner, and no enum does:
+/// document 01 has an octant as one record of floats and points.
 #[derive(Clone, Copy)]
 pub struct Octant {
     pub offset: Point,
@@ -63,7 +63,7 @@ pub struct Octant {
     pub circle_max_angle: f32,
 }
 
-// The superellipse's degree, and where its arc ends as a part of the half-extent.
+/// The superellipse's degree, and where its arc ends as a part of the half-extent.
 #[derive(Drop)]
 pub struct NAndXj {
     pub n: f32,
@@ -78,7 +78,7 @@ fn corner(row: usize, column: usize) -> f32
     CORNER_TABLE[row][column]
 }
 
-// A row of a table and the next.
+/// A row of a table and the next.
 #[derive(Drop)]
 pub struct RowPair {
     pub first: f32,
@@ -87,7 +87,7 @@ pub struct RowPair {
     pub next_second: f32,
 }
 
-// The table is lent: a copy that is indexed by a variable would be written to the stack.
+/// The table is lent: a copy that is indexed by a variable would be written to the stack.
 pub fn rows_at<const N: usize>(table: &[[f32; 2]; N], left: usize) -> RowPair
     requires { left + 1 < N }
     ensures { (result.first ≡ entry table.now left 0) × (result.second ≡ entry table.now left 1) × (result.next_first ≡ entry table.now (left + 1) 0) × (result.next_second ≡ entry table.now (left + 1) 1) }
@@ -100,7 +100,7 @@ pub fn rows_at<const N: usize>(table: &[[f32; 2]; N], left: usize) -> RowPair
     }
 }
 
-// The whole part of steps, found by comparisons, but at most last; 0 for a NaN.
+/// The whole part of steps, found by comparisons, but at most last; 0 for a NaN.
 pub fn left_row(steps: f32, last: u8) -> usize
     ensures { result ≡ left_row_of steps last }
 {
@@ -121,7 +121,7 @@ fn table_steps(ratio: f32) -> f32
     (ratio - FIRST_MAX_RATIO) * SECOND_STEP_INVERSE + FIRST_NUM_RECORDS - 1.0
 }
 
-// The degree n and xJ/a for a ratio of side to radius.
+/// The degree n and xJ/a for a ratio of side to radius.
 #[tactic(auto, unfolding(crate::specs::Degree::n_and_xj_of, crate::specs::Degree::corner_at))]
 pub fn n_and_xj(ratio: f32) -> NAndXj
     ensures { result ≡ n_and_xj_of ratio }
@@ -146,7 +146,7 @@ pub fn n_and_xj(ratio: f32) -> NAndXj
     }
 }
 
-// The center of the circle of radius r through both a and b.
+/// The center of the circle of radius r through both a and b.
 #[tactic(auto, using(crate::proofs::Turned::turned), unfolding(crate::specs::Octant::circle_center_through_of, geometry::specs::Point::normalize_of))]
 pub fn circle_center_through(a: Point, b: Point, r: f32) -> Point
     ensures { result ≡ circle_center_through_of a b r }
@@ -182,7 +182,7 @@ fn angles_between<const N: usize>(from: [Point; N], to: [Point; N]) -> [f32; N]
     lanes::pairwise(f, t, |f, t| t - f)
 }
 
-// What an octant is solved from: the gap at the corner, the degree, and the x where the arcs meet, also as a part of the half-extent.
+/// What an octant is solved from: the gap at the corner, the degree, and the x where the arcs meet, also as a part of the half-extent.
 #[derive(Clone, Copy)]
 pub struct Fitted {
     pub g: f32,
@@ -206,7 +206,7 @@ pub fn fit(a: f32, radius: f32) -> Fitted
     }
 }
 
-// An octant before it is solved.
+/// An octant before it is solved.
 #[derive(Clone, Copy)]
 pub struct Unsolved {
     pub center: Point,
@@ -275,7 +275,7 @@ fn unturned(u: Unsolved, s: Solve) -> Octant
     }
 }
 
-// N octants that are round: none has a radius up to CLOSE_ENOUGH.
+/// N octants that are round: none has a radius up to CLOSE_ENOUGH.
 pub fn round_octants<const N: usize>(u: [Unsolved; N]) -> [Octant; N]
     ensures { result ≡ map round_of u.entry }
 {
@@ -312,7 +312,7 @@ pub fn compute_octant(center: Point, a: f32, radius: f32) -> Octant
     o
 }
 
-// N octants, in step where all are round.
+/// N octants, in step where all are round.
 pub fn compute_octants<const N: usize>(u: [Unsolved; N]) -> [Octant; N]
     ensures { result ≡ map (λ (o : Unsolved). compute_octant_of o.center o.a o.radius) u.entry }
 {
@@ -322,7 +322,7 @@ pub fn compute_octants<const N: usize>(u: [Unsolved; N]) -> [Octant; N]
     lanes::each(u, |u| compute_octant(u.center, u.a, u.radius))
 }
 
-// The same octant elsewhere: nothing but the offset tells where an octant is.
+/// The same octant elsewhere: nothing but the offset tells where an octant is.
 #[tactic(auto, unfolding(crate::specs::Octant::moved_of))]
 pub fn moved(octant: Octant, center: Point) -> Octant
     ensures { result ≡ moved_of octant center }

@@ -1,5 +1,5 @@
 -- The floats and the bytes that a line spells, behind those that a buffer holds. But for two lemmas, definitions only.
-use Rattle.std.specs.Prelude.{ℕ, zero, suc, ◌+◌, ◌%◌, ◌≡◌, refl, cond, List, length, set, take, drop, eqb, leb, Float, Bool, true, false, Option, Some, None}
+use Rattle.std.specs.Prelude.{ℕ, zero, suc, ◌+◌, ◌%◌, ◌≡◌, refl, List, length, set, take, drop, nat_le, Float, Bool, true, false, Option, Some, None, if◌then◌else◌, ◌==◌}
 use Rattle.text.specs.Numbers.{number_of, single_of}
 
 -- a buffer, and how many of its elements are held: none where something did not go in
@@ -16,7 +16,7 @@ overfull f = filled None f.buffer
 -- one element more at index n, where there is room
 unfoldable pub with_one_at : {A : Type 0} → List A → Option ℕ → A → Filled A
 with_one_at l None x = filled None l
-with_one_at l (Some n) x = cond (leb (length l) n) (filled None l) (filled (Some (n + 1)) (set l n x))
+with_one_at l (Some n) x = if nat_le (length l) n then filled None l else filled (Some (n + 1)) (set l n x)
 
 abbrev pub with_one : {A : Type 0} → Filled A → A → Filled A
 with_one f x = with_one_at f.buffer f.held x
@@ -39,7 +39,7 @@ with_byte f digits = with_number f (number_of 16 digits)
 -- the first n bytes of a word, two digits each
 unfoldable pub with_bytes : ℕ → Filled ℕ → List ℕ → Filled ℕ
 with_bytes zero f word = f
-with_bytes (suc n) f word = cond (eqb (length word) 0) f (cond (eqb (length word) 1) (overfull f) (with_bytes n (with_byte f (take 2 word)) (drop 2 word)))
+with_bytes (suc n) f word = if length word == 0 then f else (if length word == 1 then overfull f else with_bytes n (with_byte f (take 2 word)) (drop 2 word))
 
 unfoldable pub with_word : Filled ℕ → List ℕ → Filled ℕ
 with_word f word = with_bytes (length word) f word
@@ -62,9 +62,9 @@ number-stays l None = refl
 pub bytes-stay : (n : ℕ) (l : List ℕ) (word : List ℕ) → with_bytes n (filled None l) word ≡ filled None l
 unfolding with_bytes with_byte
 bytes-stay zero l word = refl
-bytes-stay (suc n) l word = go (eqb (length word) 0) (eqb (length word) 1) (number-stays l (number_of 16 (take 2 word))) (bytes-stay n l (drop 2 word))
+bytes-stay (suc n) l word = go (length word == 0) (length word == 1) (number-stays l (number_of 16 (take 2 word))) (bytes-stay n l (drop 2 word))
   where
-    go : (t u : Bool) {f : Filled ℕ} → f ≡ filled None l → with_bytes n (filled None l) (drop 2 word) ≡ filled None l → cond t (filled None l) (cond u (filled None l) (with_bytes n f (drop 2 word))) ≡ filled None l
+    go : (t u : Bool) {f : Filled ℕ} → f ≡ filled None l → with_bytes n (filled None l) (drop 2 word) ≡ filled None l → (if t then filled None l else (if u then filled None l else with_bytes n f (drop 2 word))) ≡ filled None l
     go true u e h = refl
     go false true e h = refl
     go false false e h = Prim.rw e h

@@ -1,5 +1,5 @@
 -- The floats that the words of a line spell, and the bounds and radii that twelve of them are. Definitions only.
-use Rattle.std.specs.Prelude.{ℕ, zero, suc, cond, List, [], ◌∷◌, ◌++◌, length, get_or, eqb, leb, Float, Option, Some, None}
+use Rattle.std.specs.Prelude.{ℕ, zero, suc, List, [], ◌∷◌, ◌++◌, length, get_or, nat_le, Float, Option, Some, None, if◌then◌else◌, ◌==◌}
 use Rattle.std.specs.Float.{nan}
 use Rattle.geometry.specs.declared.Point.{Point}
 use Rattle.shape.specs.declared.Bounds.{Bounds}
@@ -9,7 +9,7 @@ use Rattle.text.specs.Words.{first_word, after_word}
 
 -- with one more, if it is one and there are not 14 yet; none where there is no good list
 unfoldable pub with_single : List Float → Option Float → Option (List Float)
-with_single x (Some v) = cond (leb 14 (length x)) None (Some (x ++ v ∷ []))
+with_single x (Some v) = if nat_le 14 (length x) then None else Some (x ++ v ∷ [])
 with_single x None = None
 
 unfoldable pub with_next : Option (List Float) → List ℕ → Option (List Float)
@@ -19,7 +19,7 @@ with_next None word = None
 -- a step with each of the first n words of a line
 unfoldable pub over_words : {S : Type 0} → (S → List ℕ → S) → ℕ → S → List ℕ → S
 over_words step zero x s = x
-over_words step (suc n) x s = cond (eqb (length (first_word s)) 0) x (over_words step n (step x (first_word s)) (after_word s))
+over_words step (suc n) x s = if length (first_word s) == 0 then x else over_words step n (step x (first_word s)) (after_word s)
 
 -- all that a line spells, which has no more words than bytes
 unfoldable pub operands_of : List ℕ → Option (List Float)

@@ -4,7 +4,7 @@ ghost use Rattle.std.specs.Prelude.{◌≡◌, ℕ, List, length, Some, None};
 ghost use Rattle.operands.specs.Operands.{over_words};
 ghost use Rattle.operands.specs.Appending.{Filled, filled, overfull, with_float, with_byte, with_word, no_float_more, no_byte_more};
 
-// What a word of a line puts into a buffer.
+/// What a word of a line puts into a buffer.
 pub trait Element: Copy {
     ghost with_word: { Filled Self → List ℕ → Filled Self };
 
@@ -65,7 +65,7 @@ impl Element for u8 {
     }
 }
 
-// All words of a line.
+/// All words of a line.
 pub fn push<T: Element>(line: &[u8], buffer: &mut [T], held: usize) -> Option<usize>
     ensures { filled result buffer.new ≡ over_words T.with_word (length line.now) (filled (Some held) buffer.old) line.now }
 {

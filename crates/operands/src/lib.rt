@@ -1,4 +1,4 @@
-// The floats that the words of a line spell, and the bounds and radii that twelve of them are.
+//! The floats that the words of a line spell, and the bounds and radii that twelve of them are.
 
 #![tactic(auto)]
 
@@ -14,7 +14,7 @@ use arrayvec::ArrayVec;
 use geometry::Point;
 use shape::{Bounds, CornerRadii};
 
-// Up to 14 singles.
+/// Up to 14 singles.
 pub type Operands = ArrayVec<f32, 14>;
 
 #[tactic(auto, unfolding(crate::specs::Operands::with_next, crate::specs::Operands::with_single))]
@@ -25,7 +25,7 @@ fn push_next(x: &mut Operands, word: &[u8]) -> Option<()>
     x.try_push(v).ok()
 }
 
-// None where a word is no single, or there are more than 14.
+/// None where a word is no single, or there are more than 14.
 pub fn read(line: &[u8]) -> Option<Operands>
     ensures { option_map (λ x. x.items) result ≡ operands_of line.now }
 {
@@ -39,14 +39,14 @@ pub fn read(line: &[u8]) -> Option<Operands>
     Some(x)
 }
 
-// The i-th, or a NaN where there are not so many.
+/// The i-th, or a NaN where there are not so many.
 pub fn at(x: &[f32], i: usize) -> f32
     ensures { result ≡ get_or x.now i nan }
 {
     x.get(i).copied().unwrap_or(f32::NAN)
 }
 
-// The point of operands i and i + 1.
+/// The point of operands i and i + 1.
 pub fn point(x: &[f32], i: u8) -> Point
     ensures { result ≡ point_at x.now i }
 {

@@ -9,16 +9,16 @@ use Rattle.stream.specs.declared.Element.{Element}
 use Rattle.stream.specs.declared.Need.{Need}
 use Rattle.stream.specs.Stream.{State, origin, need_of, push_all, Fits, start_after, pen_after}
 use Rattle.stream.proofs.Tests.{room-is}
-use Rattle.lowering.specs.Entries.{elements_of}
+use Rattle.conic_writer.specs.Entries.{elements_of}
 use Rattle.calls.specs.declared.BuildError.{BuildError}
 use Rattle.calls.specs.Calls.{entries_of, outcome, outcome_of, admit_of}
 use Rattle.calls.proofs.Admission.{Admitted, admitted_for, refused-is, done-is, passed_on}
 use Rattle.calls.proofs.Largest.{Covered}
-use Rattle.contour.proofs.Turns.{drawn-sizes}
+use Rattle.outline_need.proofs.Turns.{drawn-sizes}
 use Rattle.shape.specs.declared.RoundSuperellipse.{RoundSuperellipse}
-use Rattle.corners.specs.declared.Outline.{Outline}
-use Rattle.corners.specs.Calls.{Drawing, drawing_of, calls_in, outline_of, outline_calls}
-use Rattle.contour.specs.Entries.{entries_along, outline_entries, elements_along, push_calls, RoomAlong}
+use Rattle.outline_corners.specs.declared.Outline.{Outline}
+use Rattle.outline_corners.specs.Calls.{Drawing, drawing_of, calls_in, outline_of, outline_calls}
+use Rattle.outline_need.specs.Entries.{entries_along, outline_entries, elements_along, push_calls, RoomAlong}
 use Rattle.outline.specs.declared.BuildingCall.TheVariants.{AddTo}
 use Rattle.outline.specs.Step.{wordless, step}
 

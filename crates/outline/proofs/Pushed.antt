@@ -8,11 +8,11 @@ use lib.ListN.{length}
 use Rattle.stream.specs.declared.Element.{Element}
 use Rattle.stream.specs.Stream.{State, size_of, push, push_all, Fits}
 use Rattle.stream.proofs.Pushed.{sizes-one, push_all-one}
-use Rattle.lowering.specs.Entries.{Entry, plain, elements_of}
+use Rattle.conic_writer.specs.Entries.{Entry, plain, elements_of}
 use Rattle.calls.specs.declared.Call.{Call}
 use Rattle.calls.specs.Calls.{entries_of}
-use Rattle.contour.specs.Entries.{push_calls, RoomAlong}
-use Rattle.contour.proofs.Passing.{along_one}
+use Rattle.outline_need.specs.Entries.{push_calls, RoomAlong}
+use Rattle.outline_need.proofs.Passing.{along_one}
 
 module _ (s : State) (c : Call) where
   pub room-one : RoomAlong s (c ∷ []) → Fits s.builder s.verbs s.floats (elements_of (entries_of false s.builder.pen c))

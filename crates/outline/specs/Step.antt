@@ -2,11 +2,11 @@
 use Rattle.std.specs.Prelude.{List, Bool, true, false}
 use Rattle.geometry.specs.declared.Point.{Point}
 use Rattle.stream.specs.Stream.{State}
-use Rattle.lowering.specs.Entries.{Entry}
+use Rattle.conic_writer.specs.Entries.{Entry}
 use Rattle.calls.specs.declared.Call.TheVariants as call
 use Rattle.calls.specs.Calls as calls
 use Rattle.calls.specs.Calls.{Outcome, outcome, attempt}
-use Rattle.contour.specs.Entries.{outline_entries}
+use Rattle.outline_need.specs.Entries.{outline_entries}
 use Rattle.outline.specs.declared.BuildingCall.{BuildingCall}
 use Rattle.outline.specs.declared.BuildingCall.TheVariants.{MoveTo, LineTo, QuadTo, ConicTo, CubicTo, Close, AddTo}
 
@@ -21,14 +21,14 @@ entries_of empty p Close = calls.entries_of empty p call.Close
 entries_of empty p (AddTo shape) = outline_entries shape
 
 -- whether a call's answer carries the joint word of what it added: an outline's has none
-abbrev pub worded : BuildingCall → Bool
-worded (MoveTo a) = true
-worded (LineTo a) = true
-worded (QuadTo a b) = true
-worded (ConicTo a b w) = true
-worded (CubicTo a b c) = true
-worded Close = true
-worded (AddTo shape) = false
+abbrev pub answers_word : BuildingCall → Bool
+answers_word (MoveTo a) = true
+answers_word (LineTo a) = true
+answers_word (QuadTo a b) = true
+answers_word (ConicTo a b w) = true
+answers_word (CubicTo a b c) = true
+answers_word Close = true
+answers_word (AddTo shape) = false
 
 abbrev pub wordless : Outcome → Outcome
 wordless o = outcome o.number 0 o.state

@@ -1,31 +1,31 @@
-// The outline of a shape as a building call: its need is counted before anything is written, and it is written whole or
-// not at all.
+//! The outline of a shape as a building call: its need is counted before anything is written, and it is written whole or
+//! not at all.
 
 #![tactic(auto)]
 
 ghost use Rattle.std.specs.Prelude.{◌≡◌};
 ghost use mathlib.Core.List.{◌∷◌, [], flatten};
 ghost use Rattle.stream.specs.Stream.{state, origin, need_of};
-ghost use Rattle.lowering.specs.Entries.{elements_of};
+ghost use Rattle.conic_writer.specs.Entries.{elements_of};
 ghost use Rattle.calls.specs.Calls.{outcome_of, admit_of};
-ghost use Rattle.corners.specs.Calls.{conic_call, calls_forwards, calls_backwards, calls_of, call_lists, drawing_of, calls_in};
-ghost use Rattle.contour.specs.Entries.{entries_along, push_calls, RoomAlong};
+ghost use Rattle.outline_corners.specs.Calls.{conic_call, calls_forwards, calls_backwards, calls_of, call_lists, drawing_of, calls_in};
+ghost use Rattle.outline_need.specs.Entries.{entries_along, push_calls, RoomAlong};
 ghost use Rattle.outline.specs.Step.{step};
 
 use calls::BuildError;
 use conic::Conic;
-use corners::{ConicArc, Corner, Corners, OctantArcs, Outline};
+use outline_corners::{ConicArc, Corner, Corners, OctantArcs, Outline};
 use geometry::Point;
 use shape::RoundSuperellipse;
 use stream::{Builder, Element, Need};
 
-// The largest outline.
+/// The largest outline.
 pub const MOST_VERBS: usize = 1035;
 
 pub const MOST_POINTS: usize = 2074;
 
-// A building call as a value: the six of path.rs, and the outline of a shape.
-// Stays an enum of seven: with the six as one case that holds a calls::Call, each use of them would name two cases.
+/// A building call as a value: the six of path.rs, and the outline of a shape.
+/// Stays an enum of seven: with the six as one case that holds a calls::Call, each use of them would name two cases.
 #[derive(Clone, Copy)]
 pub enum BuildingCall {
     MoveTo(Point),
@@ -51,7 +51,7 @@ fn push_conic(b: Builder, verbs: &mut [u8], points: &mut [f32], arc: ConicArc) -
         to: to,
         weight: arc.weight,
     });
-    lowering::push_unmarked(b, verbs, points, l)
+    conic_writer::push_unmarked(b, verbs, points, l)
 }
 
 // An octant, a corner and an outline likewise.
@@ -138,11 +138,11 @@ fn admit_outline(b: Builder, verbs: usize, floats: usize, o: Outline) -> Result<
         b,
         verbs,
         floats,
-        contour::outline_need(o),
+        outline_need::outline_need(o),
     ))
 }
 
-// The outline behind the held elements: a move, four corners, a line to the move's point, a close.
+/// The outline behind the held elements: a move, four corners, a line to the move's point, a close.
 pub fn add_to(
     shape: RoundSuperellipse,
     b: Builder,
@@ -151,7 +151,7 @@ pub fn add_to(
 ) -> Result<Builder, BuildError>
     ensures { outcome_of result verbs.new points.new ≡ step (state b verbs.old points.old) (BuildingCall.AddTo shape) }
 {
-    let o = corners::draw(shape);
+    let o = outline_corners::draw(shape);
     admit_outline(b, verbs.len(), points.len(), o)?;
     Ok(push_outline(b, verbs, points, o))
 }

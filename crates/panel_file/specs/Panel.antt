@@ -1,5 +1,5 @@
 -- What a panel file is: the list of its records, or cause 7 with the offset of the first record that is cut short, of unknown kind or of a length that is not its kind's. Definitions only.
-use Rattle.std.specs.Prelude.{ℕ, zero, suc, ◌+◌, ◌-◌, Bool, true, false, cond, List, [], ◌∷◌, length, leb, ltb, eqb, Option, Some, None, Result, Ok, Err}
+use Rattle.std.specs.Prelude.{ℕ, zero, suc, ◌+◌, ◌-◌, Bool, true, false, List, [], ◌∷◌, length, nat_le, nat_lt, Option, Some, None, Result, Ok, Err, if◌then◌else◌, ◌==◌, codes}
 use Rattle.geometry.specs.declared.Point.{Point}
 use Rattle.panel_file.specs.Bytes.{u16_at, point_at}
 use Rattle.panel_file.specs.declared.Kind.{Kind}
@@ -29,14 +29,14 @@ header = 4
 
 -- the kinds by their numbers
 unfoldable pub kind_of : ℕ → Result Kind UnknownKind
-kind_of n = cond (eqb n 1) (Ok button) (cond (eqb n 2) (Ok touch) (Err (record { number = n })))
+kind_of n = if n == 1 then Ok button else (if n == 2 then Ok touch else Err (record { number = n }))
 
 -- what is told of a number that is no kind's, before the number, and of a broken file, before the offset
 abbrev pub no_kind_text : List ℕ
-no_kind_text = 110 ∷ 111 ∷ 32 ∷ 114 ∷ 101 ∷ 99 ∷ 111 ∷ 114 ∷ 100 ∷ 32 ∷ 104 ∷ 97 ∷ 115 ∷ 32 ∷ 116 ∷ 104 ∷ 101 ∷ 32 ∷ 107 ∷ 105 ∷ 110 ∷ 100 ∷ 32 ∷ []  -- `no record has the kind `
+no_kind_text = codes "no record has the kind "
 
 abbrev pub broken_text : List ℕ
-broken_text = 116 ∷ 104 ∷ 101 ∷ 32 ∷ 112 ∷ 97 ∷ 110 ∷ 101 ∷ 108 ∷ 32 ∷ 102 ∷ 105 ∷ 108 ∷ 101 ∷ 32 ∷ 105 ∷ 115 ∷ 32 ∷ 98 ∷ 114 ∷ 111 ∷ 107 ∷ 101 ∷ 110 ∷ 32 ∷ 97 ∷ 116 ∷ 32 ∷ []  -- `the panel file is broken at `
+broken_text = codes "the panel file is broken at "
 
 -- the length of a payload
 unfoldable pub payload_of : Kind → ℕ
@@ -62,17 +62,17 @@ broken_head at = Err (record { offset = at })
 -- a record of a known kind is whole where its length is its kind's and that many bytes follow its header
 unfoldable pub whole_of : Result Kind UnknownKind → ℕ → ℕ → ℕ → Result (Option Kind) Broken
 whole_of (Ok kind) len left at =
-    cond (eqb len (payload_of kind)) (cond (leb (header + payload_of kind) left) (Ok (Some kind)) (broken_head at)) (broken_head at)
+    if len == payload_of kind then (if nat_le (header + payload_of kind) left then Ok (Some kind) else broken_head at) else broken_head at
 whole_of (Err e) len left at = broken_head at
 
 -- What stands at an offset: the kind of a whole record, or none at the end of the file. A file that is too long is broken at 0, which is tested first.
 unfoldable pub head_at : List ℕ → ℕ → Result (Option Kind) Broken
 head_at file at =
     let n = length file in
-    cond (ltb limit n) (broken_head 0)
-    (cond (leb n at) (Ok None)
-    (cond (ltb (n - at) header) (broken_head at)
-    (whole_of (kind_of (u16_at file (at + 2))) (u16_at file at) (n - at) at)))
+    if nat_lt limit n then broken_head 0
+    else (if nat_le n at then Ok None
+    else (if nat_lt (n - at) header then broken_head at
+    else whole_of (kind_of (u16_at file (at + 2))) (u16_at file at) (n - at) at))
 
 -- what a payload that starts at an offset holds
 unfoldable pub content_at : Kind → List ℕ → ℕ → Record

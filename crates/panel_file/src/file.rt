@@ -1,11 +1,11 @@
-// A panel file that is known to be good, and its records one by one.
+//! A panel file that is known to be good, and its records one by one.
 
 ghost use Rattle.std.specs.Prelude.{◌≡◌, true, ◌≤◌, length};
 ghost use Rattle.panel_file.specs.Panel.{records_of, records_from, records_in, is_done, counts_of};
 
 use crate::{Broken, Counts, Record, check, record_at};
 
-// The bytes of a file that was checked.
+/// The bytes of a file that was checked.
 #[derive(Clone, Copy)]
 pub struct PanelFile<'a> {
     bytes: &'a [u8],
@@ -43,7 +43,7 @@ impl<'a> PanelFile<'a> {
     }
 }
 
-// The records from an offset of a good file on.
+/// The records from an offset of a good file on.
 #[derive(Drop)]
 pub struct Records<'a> {
     bytes: &'a [u8],

@@ -1,5 +1,5 @@
-// Panel files: records of a payload's length, a kind and the payload, little-endian, at most 65,536
-// bytes. Whatever a file holds, reading it answers its records or document 01's cause 7.
+//! Panel files: records of a payload's length, a kind and the payload, little-endian, at most 65,536
+//! bytes. Whatever a file holds, reading it answers its records or document 01's cause 7.
 
 #![tactic(auto)]
 
@@ -15,10 +15,10 @@ use std::num::f32_from_bits_with_nan;
 
 mod file;
 
-// The longest file.
+/// The longest file.
 pub const LIMIT: usize = 65536;
 
-// The bytes in front of a payload: its length and its kind.
+/// The bytes in front of a payload: its length and its kind.
 pub const HEADER: usize = 4;
 
 #[derive(Clone, Copy, Debug, PartialEq, Eq)]
@@ -27,7 +27,7 @@ pub enum Kind {
     Touch,
 }
 
-// A number that is no kind's.
+/// A number that is no kind's.
 #[derive(Clone, Copy, Debug, PartialEq, Eq)]
 pub struct UnknownKind {
     pub number: u16,
@@ -58,7 +58,7 @@ impl fmt::Display for UnknownKind {
 
 impl Error for UnknownKind {}
 
-// Bounds and corner radii, as the file has them.
+/// Bounds and corner radii, as the file has them.
 #[derive(Clone, Copy)]
 pub struct Button {
     pub min: Point,
@@ -75,8 +75,8 @@ pub enum Record {
     Touch(Point),
 }
 
-// A file that is cut short or too long, or in which a record has an unknown kind or a wrong length:
-// document 01's cause 7.
+/// A file that is cut short or too long, or in which a record has an unknown kind or a wrong length:
+/// document 01's cause 7.
 #[derive(Clone, Copy, Debug, PartialEq, Eq)]
 pub struct Broken {
     // Where the first broken record starts.
@@ -84,7 +84,7 @@ pub struct Broken {
 }
 
 impl Broken {
-    // Document 01's number of the cause.
+    /// Document 01's number of the cause.
     pub fn number(self) -> u8
         ensures { result ≡ 7 }
     {
@@ -102,7 +102,7 @@ impl fmt::Display for Broken {
 
 impl Error for Broken {}
 
-// How many records of each kind there are.
+/// How many records of each kind there are.
 #[derive(Clone, Copy, Debug, PartialEq, Eq, Default)]
 pub struct Counts {
     pub buttons: usize,
@@ -122,7 +122,7 @@ impl Record {
 }
 
 impl Counts {
-    // With one record more.
+    /// With one record more.
     #[tactic(auto, unfolding(crate::specs::Panel::counted_of))]
     pub fn with(self, kind: Kind) -> Counts
         requires { (self.buttons < 65536) × (self.touches < 65536) }
@@ -234,7 +234,7 @@ fn head_at(file: &[u8], at: usize) -> Result<Option<Kind>, Broken>
     }
 }
 
-// The record at an offset of the file and the offset past it; at the file's length and past it, none.
+/// The record at an offset of the file and the offset past it; at the file's length and past it, none.
 #[tactic(auto, unfolding(crate::specs::Panel::read_of, crate::specs::Panel::record_at, crate::specs::Panel::entry_of, crate::specs::Panel::content_at, crate::specs::Panel::payload_of))]
 pub fn record_at(file: &[u8], at: usize) -> Result<Option<(Record, usize)>, Broken>
     ensures { read_of result ≡ record_at file.now at }
@@ -250,7 +250,7 @@ pub fn record_at(file: &[u8], at: usize) -> Result<Option<(Record, usize)>, Brok
     }
 }
 
-// How many records of each kind the whole file holds, if it is good.
+/// How many records of each kind the whole file holds, if it is good.
 pub fn check(file: &[u8]) -> Result<Counts, Broken>
     ensures { checked_of result ≡ on_done counts_of (records_of file.now) }
 {

@@ -1,5 +1,5 @@
 -- The Rust's `compute_quadrant` and `split`, in its order. Definitions only.
-use Rattle.std.specs.Prelude.{Bool, cond, ◌&&◌, ◌||◌, Float}
+use Rattle.std.specs.Prelude.{Bool, ◌&&◌, ◌||◌, Float, if◌then◌else◌}
 use Rattle.std.specs.Float.Ieee.{neg, eq, ne, lt}
 use Rattle.ieee.specs.Basic.{abs_of, min_of}
 use Rattle.geometry.specs.declared.Point.{Point}
@@ -13,11 +13,11 @@ use Rattle.quadrant.specs.declared.Quadrant.{Quadrant}
 
 -- how far the corner is stretched from a circular one: nothing where the lesser radius is zero
 unfoldable pub forward_scale_of : Point → Float → Point
-forward_scale_of radii norm_radius = cond (eq norm_radius zero) (point one one) (shrink_of radii norm_radius)
+forward_scale_of radii norm_radius = if eq norm_radius zero then point one one else shrink_of radii norm_radius
 
 -- the sign in place of a NaN, and of nothing else
 unfoldable pub or_sign_of : Float → Float → Float
-or_sign_of raw sign = cond (ne raw raw) sign raw
+or_sign_of raw sign = if ne raw raw then sign else raw
 
 -- compute_quadrant
 unfoldable pub compute_quadrant_of : Point → Point → Point → Point → Quadrant
@@ -90,8 +90,8 @@ both_zero a b = eq a zero && eq b zero
 -- split: where two adjacent corners divide the side they share, in proportion to their radii
 unfoldable pub split_of : Float → Float → Float → Float → Float
 split_of low high ratio_low ratio_high =
-    cond (both_zero ratio_low ratio_high) ((low ⊕ high) ⊘ two)
-    ((low ⊗ ratio_high ⊕ high ⊗ ratio_low) ⊘ (ratio_low ⊕ ratio_high))
+    if both_zero ratio_low ratio_high then (low ⊕ high) ⊘ two
+    else (low ⊗ ratio_high ⊕ high ⊗ ratio_low) ⊘ (ratio_low ⊕ ratio_high)
 
 -- a degree below 2 on either side makes the corner square; a NaN is not below
 unfoldable pub square_corner : Quadrant → Bool

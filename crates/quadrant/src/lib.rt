@@ -1,15 +1,15 @@
-// One quarter of the outline: two octants of a corner that is solved round and stretched back.
-// Binary32 throughout, every operation rounded once, with the Rust's names and in its order.
+//! One quarter of the outline: two octants of a corner that is solved round and stretched back.
+//! Binary32 throughout, every operation rounded once, with the Rust's names and in its order.
 
 #![tactic(auto)]
 
-ghost use Rattle.std.specs.Prelude.{◌≡◌, true};
+ghost use Rattle.std.specs.Prelude.{◌≡◌, true, map};
 ghost use Rattle.quadrant.specs.Quadrant.{forward_scale_of, or_sign_of, frame_of, top_offset_of, right_offset_of, top_octant_of, right_octant_of, joined_of, solved_of, compute_quadrant_of, split_of, square_corner};
 
 use geometry::Point;
 use octant::{Octant, Unsolved};
 
-// Two octants that meet on the diagonal.
+/// Two octants that meet on the diagonal.
 #[derive(Clone, Copy)]
 pub struct Quadrant {
     pub offset: Point,
@@ -19,7 +19,7 @@ pub struct Quadrant {
 }
 
 impl Quadrant {
-    // A degree that is a NaN is round.
+    /// A degree that is a NaN is round.
     #[tactic(auto, unfolding(crate::specs::Quadrant::square_corner))]
     pub fn is_square(self) -> bool
         ensures { result ≡ square_corner self }
@@ -63,7 +63,7 @@ fn is_one_float(x: f32, y: f32) -> bool
     f32::to_bits(x) == f32::to_bits(y)
 }
 
-// A corner before its octants are solved: each half-extent as if the corner were round, and its radius.
+/// A corner before its octants are solved: each half-extent as if the corner were round, and its radius.
 #[derive(Clone, Copy)]
 pub struct Frame {
     pub offset: Point,
@@ -97,7 +97,7 @@ pub fn frame_of(center: Point, corner: Point, in_radii: Point, sign: Point) -> F
     }
 }
 
-// The two octants' superellipses are offset by the same distance in opposite directions.
+/// The two octants' superellipses are offset by the same distance in opposite directions.
 #[tactic(auto, unfolding(crate::specs::Quadrant::top_offset_of))]
 pub fn top_offset(f: Frame) -> Point
     ensures { result ≡ top_offset_of f }
@@ -114,8 +114,8 @@ pub fn right_offset(f: Frame) -> Point
     Point { x: c, y: 0.0 }
 }
 
-// The two octants of a corner, unsolved. Not one function for both sides: it would take the side by an enum, and its body
-// would be these two under a match.
+/// The two octants of a corner, unsolved. Not one function for both sides: it would take the side by an enum, and its body
+/// would be these two under a match.
 pub fn top_octant(f: Frame) -> Unsolved
     ensures { result ≡ top_octant_of f }
 {
@@ -136,7 +136,7 @@ pub fn right_octant(f: Frame) -> Unsolved
     }
 }
 
-// The quadrant of a corner with these octants.
+/// The quadrant of a corner with these octants.
 pub fn joined(f: Frame, top: Octant, right: Octant) -> Quadrant
     ensures { result ≡ joined_of f top right }
 {
@@ -148,7 +148,7 @@ pub fn joined(f: Frame, top: Octant, right: Octant) -> Quadrant
     }
 }
 
-// The quadrant of a corner, solved. Octants of the same half-extent differ in their offset alone, so one solve serves both.
+/// The quadrant of a corner, solved. Octants of the same half-extent differ in their offset alone, so one solve serves both.
 #[tactic(auto, unfolding(crate::specs::Quadrant::solved_of))]
 pub fn solved(f: Frame) -> Quadrant
     ensures { result ≡ solved_of f }
@@ -168,7 +168,7 @@ pub fn compute_quadrant(center: Point, corner: Point, in_radii: Point, sign: Poi
     solved(frame_of(center, corner, in_radii, sign))
 }
 
-// Where two adjacent corners divide the side they share, in proportion to their radii.
+/// Where two adjacent corners divide the side they share, in proportion to their radii.
 #[tactic(auto, unfolding(crate::specs::Quadrant::split_of, crate::specs::Quadrant::both_zero))]
 pub fn split(low: f32, high: f32, ratio_low: f32, ratio_high: f32) -> f32
     ensures { result ≡ split_of low high ratio_low ratio_high }
@@ -177,4 +177,39 @@ pub fn split(low: f32, high: f32, ratio_low: f32, ratio_high: f32) -> f32
         return (low + high) / 2.0;
     }
     (low * ratio_high + high * ratio_low) / (ratio_low + ratio_high)
+}
+
+/// The quadrants of four corners. A square one has nothing to solve, so that there is none to keep step with.
+pub fn four_quadrants(f: [Frame; 4]) -> [Quadrant; 4]
+    ensures { result ≡ map solved_of f }
+{
+    if lanes::all(f, |f| !(f.radius <= octant::CLOSE_ENOUGH)) {
+        let [p, q, r, s] = f;
+        let [
+            p_top,
+            p_right,
+            q_top,
+            q_right,
+            r_top,
+            r_right,
+            s_top,
+            s_right,
+        ] = octant::round_octants([
+            top_octant(p),
+            right_octant(p),
+            top_octant(q),
+            right_octant(q),
+            top_octant(r),
+            right_octant(r),
+            top_octant(s),
+            right_octant(s),
+        ]);
+        return [
+            joined(p, p_top, p_right),
+            joined(q, q_top, q_right),
+            joined(r, r_top, r_right),
+            joined(s, s_top, s_right),
+        ];
+    }
+    lanes::each(f, solved)
 }

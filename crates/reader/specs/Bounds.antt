@@ -1,6 +1,6 @@
 -- The least box round the points of all segments, controls included: points not finite are passed over, and of equal values the earlier stays.
 -- Definitions only.
-use Rattle.std.specs.Prelude.{List, [], ◌∷◌, cond, Option, Some, None, Result, Ok, Err}
+use Rattle.std.specs.Prelude.{List, [], ◌∷◌, Option, Some, None, Result, Ok, Err, if◌then◌else◌}
 use Rattle.ieee.specs.Basic.{min_of, max_of}
 use Rattle.geometry.specs.declared.Point.{Point}
 use Rattle.geometry.specs.Point.{finite_point}
@@ -20,7 +20,7 @@ widen_of (Some r) p = Some (record {
 })
 
 unfoldable pub include_of : Option Rect → Point → Option Rect
-include_of e p = cond (finite_point p) (widen_of e p) e
+include_of e p = if finite_point p then widen_of e p else e
 
 unfoldable pub include_all : Option Rect → List Point → Option Rect
 include_all e [] = e

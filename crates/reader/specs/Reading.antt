@@ -1,6 +1,6 @@
 -- Reading a stream, one segment at a cursor or all of it. Each answer enum has here document 01's number and values for each of its cases.
 -- Definitions only.
-use Rattle.std.specs.Prelude.{◌≡◌, List, [], ◌∷◌, cond, ◌||◌, ℕ, zero, suc, ◌+◌, ◌-◌, ◌*◌, get_or, leb, ltb, Float, Result, Ok, Err, ◌++◌, decimal}
+use Rattle.std.specs.Prelude.{◌≡◌, List, [], ◌∷◌, ◌||◌, ℕ, zero, suc, ◌+◌, ◌-◌, ◌*◌, get_or, nat_le, nat_lt, Float, Result, Ok, Err, ◌++◌, decimal, if◌then◌else◌, codes}
 use Rattle.std.proofs.Math.Seq.{slice}
 use Rattle.std.specs.Float.{nan}
 use Rattle.geometry.specs.declared.Point.{Point}
@@ -55,10 +55,10 @@ refusal_of (BadRecord b) = with_record (number_of (BadRecord b)) b
 refusal_of (Malformed i) = at_verb (number_of (Malformed i)) i
 
 abbrev pub unread_before : List ℕ
-unread_before = 118 ∷ 101 ∷ 114 ∷ 98 ∷ 32 ∷ []  -- `verb `
+unread_before = codes "verb "
 
 abbrev pub unread_after : List ℕ
-unread_after = 32 ∷ 99 ∷ 97 ∷ 110 ∷ 110 ∷ 111 ∷ 116 ∷ 32 ∷ 98 ∷ 101 ∷ 32 ∷ 114 ∷ 101 ∷ 97 ∷ 100 ∷ []  -- ` cannot be read`
+unread_after = codes " cannot be read"
 
 -- what is told of a refusal
 abbrev pub refusal_text : ReadError → List ℕ
@@ -90,10 +90,10 @@ unfoldable pub read_at : State → Cursor → Answer Item
 read_at s c =
     let v = get_or s.verbs c.verb 0 in
     let k = point_count v in
-    cond (bad_state s) (refused (with_record 1 s.builder))
-    (cond (leb s.builder.verbs c.verb) (ok (end c))
-    (cond (ltb 4 v || ltb (s.builder.points - c.point) k) (refused (at_verb 6 c.verb))
-    (ok (item (element_at v s.floats c.point) (cursor (c.verb + 1) (c.point + k))))))
+    if bad_state s then refused (with_record 1 s.builder)
+    else (if nat_le s.builder.verbs c.verb then ok (end c)
+    else (if nat_lt 4 v || nat_lt (s.builder.points - c.point) k then refused (at_verb 6 c.verb)
+    else ok (item (element_at v s.floats c.point) (cursor (c.verb + 1) (c.point + k)))))
 
 -- the part of the lent floats between two cursors, for a segment that was read; none for an end or a refusal
 abbrev pub part_of : List Float → Cursor → Answer Item → List Float

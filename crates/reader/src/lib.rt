@@ -1,5 +1,5 @@
-// Reading a stream: one segment at a cursor, the part of the lent floats that it consumes, and the
-// least box round all points.
+//! Reading a stream: one segment at a cursor, the part of the lent floats that it consumes, and the
+//! least box round all points.
 
 #![tactic(auto)]
 
@@ -13,7 +13,7 @@ use std::error::Error;
 use std::fmt;
 use stream::{Builder, Verb};
 
-// A place in a stream.
+/// A place in a stream.
 #[derive(Clone, Copy)]
 pub struct Cursor {
     pub verb: usize,
@@ -30,7 +30,7 @@ pub enum Segment {
     End,
 }
 
-// The refusal of a reading.
+/// The refusal of a reading.
 #[derive(Clone, Copy, Debug)]
 pub enum ReadError {
     // Cause 1, with the same record: it does not suit the buffers.
@@ -40,7 +40,7 @@ pub enum ReadError {
 }
 
 impl ReadError {
-    // Document 01's number.
+    /// Document 01's number.
     pub fn number(self) -> u8
         ensures { result ≡ number_of self }
     {
@@ -85,7 +85,7 @@ fn segment_at(verb: Verb, points: &[f32], at: usize) -> Segment
     }
 }
 
-// The segment at c and the next cursor. Set in place where it is called: as a call of its own it costs half as much again.
+/// The segment at c and the next cursor. Set in place where it is called: as a call of its own it costs half as much again.
 #[inline(always)]
 pub fn read(
     b: Builder,
@@ -117,7 +117,7 @@ pub fn read(
     Ok((segment_at(verb, points, p), next))
 }
 
-// The part of the lent floats that the segment at c consumes: no copy.
+/// The part of the lent floats that the segment at c consumes: no copy.
 pub fn read_points<'a>(b: Builder, verbs: &[u8], points: &'a [f32], c: Cursor) -> &'a [f32]
     ensures { (result.now ≡ part_at (state b verbs.now points.now) c) × (result.now ≡ floats_at (state b verbs.now points.now) c) }
 {
@@ -132,7 +132,7 @@ pub fn read_points<'a>(b: Builder, verbs: &[u8], points: &'a [f32], c: Cursor) -
     &points[..0]
 }
 
-// Not the bounds of a shape, though it has the same fields: those are what a shape is asked for, and a stream knows no shape.
+/// Not the bounds of a shape, though it has the same fields: those are what a shape is asked for, and a stream knows no shape.
 #[derive(Drop)]
 pub struct Rect {
     pub min: Point,
@@ -188,7 +188,7 @@ fn include_segment(seen: Option<Rect>, s: Segment) -> Option<Rect>
     }
 }
 
-// The least box round the points of all segments, controls included, if there are any that are finite.
+/// The least box round the points of all segments, controls included, if there are any that are finite.
 pub fn bounds(b: Builder, verbs: &[u8], points: &[f32]) -> Result<Option<Rect>, ReadError>
     ensures { bounds_answer result ≡ bounds_of (state b verbs.now points.now) }
 {

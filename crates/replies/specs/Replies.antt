@@ -1,5 +1,5 @@
 -- The lines that the program replay writes (docs/REPLAY.md), as lists of bytes. Definitions only.
-use Rattle.std.specs.Prelude.{ℕ, List, [], ◌∷◌, ◌++◌, decimal}
+use Rattle.std.specs.Prelude.{ℕ, List, [], ◌∷◌, ◌++◌, decimal, codes}
 use Rattle.geometry.specs.declared.Point.{Point}
 use Rattle.reader.specs.declared.Segment.{Segment}
 use Rattle.reader.specs.declared.Segment.TheVariants as segment
@@ -15,40 +15,40 @@ abbrev pub blank : List ℕ
 blank = 32 ∷ []  -- a blank
 
 abbrev pub move_text : List ℕ
-move_text = 109 ∷ 111 ∷ 118 ∷ 101 ∷ []  -- `move`
+move_text = codes "move"
 
 abbrev pub line_text : List ℕ
-line_text = 108 ∷ 105 ∷ 110 ∷ 101 ∷ []  -- `line`
+line_text = codes "line"
 
 abbrev pub quad_text : List ℕ
-quad_text = 113 ∷ 117 ∷ 97 ∷ 100 ∷ []  -- `quad`
+quad_text = codes "quad"
 
 abbrev pub cubic_text : List ℕ
-cubic_text = 99 ∷ 117 ∷ 98 ∷ 105 ∷ 99 ∷ []  -- `cubic`
+cubic_text = codes "cubic"
 
 abbrev pub close_text : List ℕ
-close_text = 99 ∷ 108 ∷ 111 ∷ 115 ∷ 101 ∷ []  -- `close`
+close_text = codes "close"
 
 abbrev pub end_text : List ℕ
-end_text = 101 ∷ 110 ∷ 100 ∷ []  -- `end`
+end_text = codes "end"
 
 abbrev pub next_text : List ℕ
-next_text = 32 ∷ 110 ∷ 101 ∷ 120 ∷ 116 ∷ []  -- ` next`
+next_text = codes " next"
 
 abbrev pub record_text : List ℕ
-record_text = 114 ∷ 101 ∷ 99 ∷ 111 ∷ 114 ∷ 100 ∷ []  -- `record`
+record_text = codes "record"
 
 abbrev pub empty_text : List ℕ
-empty_text = 101 ∷ 109 ∷ 112 ∷ 116 ∷ 121 ∷ []  -- `empty`
+empty_text = codes "empty"
 
 abbrev pub box_text : List ℕ
-box_text = 98 ∷ 111 ∷ 120 ∷ []  -- `box`
+box_text = codes "box"
 
 abbrev pub ok_text : List ℕ
-ok_text = 111 ∷ 107 ∷ []  -- `ok`
+ok_text = codes "ok"
 
 abbrev pub word_text : List ℕ
-word_text = 32 ∷ 119 ∷ 111 ∷ 114 ∷ 100 ∷ 32 ∷ []  -- ` word `
+word_text = codes " word "
 
 abbrev pub one_text : List ℕ
 one_text = 49 ∷ []  -- `1`
@@ -57,13 +57,13 @@ abbrev pub zero_text : List ℕ
 zero_text = 48 ∷ []  -- `0`
 
 abbrev pub refused_text : List ℕ
-refused_text = 114 ∷ 101 ∷ 102 ∷ 117 ∷ 115 ∷ 101 ∷ 100 ∷ 32 ∷ []  -- `refused `
+refused_text = codes "refused "
 
 abbrev pub malformed_text : List ℕ
-malformed_text = 114 ∷ 101 ∷ 102 ∷ 117 ∷ 115 ∷ 101 ∷ 100 ∷ 32 ∷ 54 ∷ 32 ∷ 97 ∷ 116 ∷ 32 ∷ []  -- `refused 6 at `
+malformed_text = codes "refused 6 at "
 
 abbrev pub bad_text : List ℕ
-bad_text = 98 ∷ 97 ∷ 100 ∷ 32 ∷ 108 ∷ 105 ∷ 110 ∷ 101 ∷ 32 ∷ []  -- `bad line `
+bad_text = codes "bad line "
 
 -- ---- what a line is made of
 

@@ -1,4 +1,4 @@
-// The lines that the program replay writes (docs/REPLAY.md), but for the ends of the lines.
+//! The lines that the program replay writes (docs/REPLAY.md), but for the ends of the lines.
 
 #![tactic(auto)]
 

@@ -160,7 +160,7 @@ fn put_reply(out: &mut [u8], reply: Reply) -> usize
     }
 }
 
-// The reply and the end of the line, from the start of out.
+/// The reply and the end of the line, from the start of out.
 #[tactic(auto, unfolding(crate::specs::Placed::put_line))]
 pub fn put(out: &mut [u8], reply: Reply) -> usize
     ensures { written result out.new ≡ put_line (written 0 out.old) reply }

@@ -14,10 +14,10 @@ use Rattle.panel_file.specs.Panel.{touches_of, counted_of, kind_of_record}
 use Rattle.touch.specs.Touch.{Place, nowhere_code, code_of, place_of, shapes_of, place_among, places_of}
 use Rattle.touch.proofs.Marking.{at_none, place_code, seek-below}
 use Rattle.touch.proofs.Answering.{few_shapes}
-use Rattle.report_line.specs.declared.Line.TheVariants.{End}
-use Rattle.report_line.specs.Line.{line_of}
-use Rattle.report_line.specs.Text.{text_of}
-use Rattle.report_line.specs.Records.{lines_at, lines_by}
+use Rattle.report_lines.specs.declared.Line.TheVariants.{End}
+use Rattle.report_lines.specs.Line.{line_of}
+use Rattle.report_lines.specs.Text.{text_of}
+use Rattle.report_lines.specs.Records.{lines_at, lines_by}
 use Rattle.report.specs.Report.{touch_line, lines_of}
 use Rattle.report.specs.Lines.{line_for, line_at, passed, Placed}
 

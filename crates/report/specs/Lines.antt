@@ -5,7 +5,7 @@ use Rattle.panel_file.specs.declared.Record.{Record}
 use Rattle.panel_file.specs.declared.Record.TheVariants.{Button as ButtonRecord, Touch as TouchRecord}
 use Rattle.panel_file.specs.Panel.{touches_of, counted_of, kind_of_record}
 use Rattle.touch.specs.Touch.{shape_of, code_of, place_of, place_among}
-use Rattle.report_line.specs.declared.Line.{Line}
+use Rattle.report_lines.specs.declared.Line.{Line}
 use Rattle.report.specs.Report.{shape_line, touch_line}
 
 -- a record's line, from the index that a button has and the place, as a number, that a touch goes to

@@ -8,11 +8,11 @@ use Rattle.shape.specs.Refusal.{Outcome}
 use Rattle.shape.specs.Refusal.{made as Made, refused as RefusedBy}
 use Rattle.stream.specs.declared.Need.{Need}
 use Rattle.stream.specs.Stream.{need_of}
-use Rattle.lowering.specs.Entries.{elements_of}
-use Rattle.contour.specs.Entries.{outline_entries}
+use Rattle.conic_writer.specs.Entries.{elements_of}
+use Rattle.outline_need.specs.Entries.{outline_entries}
 use Rattle.touch.specs.Touch.{Place, button, nowhere, shape_of, place_among}
-use Rattle.report_line.specs.declared.Line.{Line}
-use Rattle.report_line.specs.declared.Line.TheVariants.{Shape, Refused, Touch, Nowhere, End, Broken}
+use Rattle.report_lines.specs.declared.Line.{Line}
+use Rattle.report_lines.specs.declared.Line.TheVariants.{Shape, Refused, Touch, Nowhere, End, Broken}
 
 -- the verbs and points of a shape's outline into a fresh builder
 unfoldable pub drawn : RoundSuperellipse → Need

@@ -1,4 +1,4 @@
-// The report on a panel file, as the program `fascia` prints it: document 01's "Program `fascia`" whole.
+//! The report on a panel file, as the program `fascia` prints it: document 01's "Program `fascia`" whole.
 
 #![tactic(auto)]
 
@@ -7,12 +7,12 @@ ghost use Rattle.io.specs.Counts.{IsPrefixLen};
 ghost use Rattle.shape.specs.Refusal.{outcome_of};
 ghost use Rattle.panel_file.specs.File.{records};
 ghost use Rattle.touch.specs.Touch.{place_of};
-ghost use Rattle.report_line.specs.Text.{text_of, Over};
+ghost use Rattle.report_lines.specs.Text.{text_of, Over};
 ghost use Rattle.report.specs.Report.{shape_line, touch_line, lines_of, report_of};
 ghost use Rattle.report.specs.Lines.{line_for, line_at, Placed};
 
 use panel_file::{Counts, PanelFile, Record};
-use report_line::{Line, Lines};
+use report_lines::{Line, Lines};
 use shape::{RoundSuperellipse, ShapeError};
 use touch::{MOST_TOUCHES, NOWHERE};
 
@@ -22,7 +22,7 @@ fn shape_line(index: usize, made: Result<RoundSuperellipse, ShapeError>) -> Line
 {
     match made {
         Ok(shape) => {
-            let need = contour::need(shape);
+            let need = outline_need::need(shape);
             Line::Shape(index, need.verbs, need.points)
         }
         Err(error) => Line::Refused(index, usize::from(error.number())),
@@ -69,11 +69,11 @@ fn put_lines(file: &PanelFile, places: &Places, out: &mut [u8; 393288]) -> usize
     ensures prefix_len { IsPrefixLen result out.new }
     ensures over { Over out.old 0 (text_of (lines_of (records file.now) 0 (records file.now))) result out.new }
 {
-    let n = report_line::put_records(places, file, out);
-    report_line::put_line(Line::End, out, n)
+    let n = report_lines::put_records(places, file, out);
+    report_lines::put_line(Line::End, out, n)
 }
 
-// The report's text, at the start of out; the answer is its length. What is past it stays.
+/// The report's text, at the start of out; the answer is its length. What is past it stays.
 pub fn report(file: &[u8], out: &mut [u8; 393288]) -> usize
     ensures prefix_len { IsPrefixLen result out.new }
     ensures value { result ≡ length (text_of (report_of file.now)) }
@@ -87,6 +87,6 @@ pub fn report(file: &[u8], out: &mut [u8; 393288]) -> usize
             touch::places(&file, &mut places.touched);
             put_lines(&file, &places, out)
         }
-        Err(broken) => report_line::put_line(Line::from(broken), out, 0),
+        Err(broken) => report_lines::put_line(Line::from(broken), out, 0),
     }
 }

@@ -1,5 +1,5 @@
 -- The coefficients of document 01's series: two families of rounded quotients, and its H, which is Horner's scheme on the first of a family. Definitions only.
-use Rattle.std.specs.Prelude.{ℕ, zero, suc, ◌+◌, ◌*◌, ◌%◌, cond, List, [], ◌∷◌, eqb, pos, Float}
+use Rattle.std.specs.Prelude.{ℕ, zero, suc, ◌+◌, ◌*◌, ◌%◌, List, [], ◌∷◌, pos, Float, if◌then◌else◌, ◌==◌}
 use Rattle.std.specs.Float.{binary64}
 use Rattle.std.specs.Float.Ieee.{neg, div, of_int}
 use Rattle.series.specs.Horner.{horner_of}
@@ -22,7 +22,7 @@ factorial_reciprocal k = reciprocal (factorial k)
 
 -- (-1)^k times c k: every other one negated
 unfoldable pub alternating : (ℕ → Float) → ℕ → Float
-alternating c k = cond (eqb (k % 2) 0) (c k) (neg (c k))
+alternating c k = if k % 2 == 0 then c k else neg (c k)
 
 -- c 0, c 1, .., n of them
 unfoldable pub terms : (ℕ → Float) → ℕ → List Float

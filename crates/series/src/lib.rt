@@ -1,5 +1,5 @@
-// Horner's scheme, and the two families of coefficients that the power series of document 01's float
-// ground draw on.
+//! Horner's scheme, and the two families of coefficients that the power series of document 01's float
+//! ground draw on.
 
 #![tactic(auto)]
 
@@ -10,8 +10,8 @@ ghost use Rattle.series.specs.Coefficients.{terms, odd_reciprocal, factorial_rec
 
 use std::simd::prelude::*;
 
-// The values at N places of the polynomial with the coefficients cs, from the constant term up. They go in step, as vectors: of an
-// array the compiler makes one place after another, and within a place each step waits for the one before.
+/// The values at N places of the polynomial with the coefficients cs, from the constant term up. They go in step, as vectors: of an
+/// array the compiler makes one place after another, and within a place each step waits for the one before.
 pub fn horner<const N: usize>(cs: &[f64], z: [f64; N]) -> [f64; N]
     ensures { result ≡ map (horner_of binary64 cs.now) z.entry }
 {
@@ -26,7 +26,7 @@ pub fn horner<const N: usize>(cs: &[f64], z: [f64; N]) -> [f64; N]
     h.to_array()
 }
 
-// 1 / (2k + 1) for k from 0 to 25.
+/// 1 / (2k + 1) for k from 0 to 25.
 pub fn odd_reciprocals() -> [f64; 26]
     ensures { result ≡ terms odd_reciprocal 26 }
 {
@@ -60,7 +60,7 @@ pub fn odd_reciprocals() -> [f64; 26]
     ]
 }
 
-// 1 / k! for k from 0 to 15.
+/// 1 / k! for k from 0 to 15.
 pub fn factorial_reciprocals() -> [f64; 16]
     ensures { result ≡ terms factorial_reciprocal 16 }
 {

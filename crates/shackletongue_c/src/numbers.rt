@@ -1,4 +1,4 @@
-// The float functions of the crate ffi.
+//! The float functions of the crate ffi.
 
 ghost use Rattle.std.specs.Prelude.{◌≡◌};
 ghost use Rattle.std.specs.Float.{binary32};
@@ -12,49 +12,49 @@ ghost use Rattle.trigonometry.specs.Arctangent.{atan2_of};
 pub extern "C" fn shackletongue_narrow(x: f64) -> f32
     ensures { result ≡ narrow_of x }
 {
-    ffi::shackletongue_narrow(x)
+    ffi_floats::shackletongue_narrow(x)
 }
 
 #[unsafe(no_mangle)]
 pub extern "C" fn shackletongue_sqrt(x: f32) -> f32
     ensures { result ≡ sqrt_of binary32 x }
 {
-    ffi::shackletongue_sqrt(x)
+    ffi_floats::shackletongue_sqrt(x)
 }
 
 #[unsafe(no_mangle)]
 pub extern "C" fn shackletongue_pow(b: f32, y: f32) -> f32
     ensures { result ≡ pow_of b y }
 {
-    ffi::shackletongue_pow(b, y)
+    ffi_floats::shackletongue_pow(b, y)
 }
 
-// The sine and the cosine go to the two places lent.
+/// The sine and the cosine go to the two places lent.
 #[unsafe(no_mangle)]
 pub extern "C" fn shackletongue_sin_cos(t: f32, sin: &mut f32, cos: &mut f32)
     ensures { (sin.new ≡ (sin_cos_of t).sin) × (cos.new ≡ (sin_cos_of t).cos) }
 {
-    ffi::shackletongue_sin_cos(t, sin, cos);
+    ffi_floats::shackletongue_sin_cos(t, sin, cos);
 }
 
 #[unsafe(no_mangle)]
 pub extern "C" fn shackletongue_tan(t: f32) -> f32
     ensures { result ≡ tan_of t }
 {
-    ffi::shackletongue_tan(t)
+    ffi_floats::shackletongue_tan(t)
 }
 
 #[unsafe(no_mangle)]
 pub extern "C" fn shackletongue_atan2(y: f32, x: f32) -> f32
     ensures { result ≡ atan2_of y x }
 {
-    ffi::shackletongue_atan2(y, x)
+    ffi_floats::shackletongue_atan2(y, x)
 }
 
-// The version of the exported functions.
+/// The version of the exported functions.
 #[unsafe(no_mangle)]
 pub extern "C" fn shackletongue_version() -> u32
     ensures { result ≡ 1 }
 {
-    ffi::shackletongue_version()
+    ffi_floats::shackletongue_version()
 }

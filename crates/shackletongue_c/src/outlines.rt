@@ -1,11 +1,11 @@
-// The outlines of the crate ffi_outline.
+//! The outlines of the crate ffi_outline.
 
 ghost use Rattle.std.specs.Prelude.{◌≡◌};
 ghost use Rattle.octant.specs.Octant.{point};
 ghost use Rattle.ffi_path.specs.Lent.{left};
 ghost use Rattle.ffi_outline.specs.Outlines.{add_of, needed, outline_need_of, conic_need_of, consistency_of};
 
-// Draws the outline of a shape behind what the record holds: 0, 1 or 5. It has no joint word.
+/// Draws the outline of a shape behind what the record holds: 0, 1 or 5. It has no joint word.
 #[unsafe(no_mangle)]
 pub extern "C" fn shackletongue_add_to(
     shape: &[f32],
@@ -19,7 +19,7 @@ pub extern "C" fn shackletongue_add_to(
     ffi_outline::shackletongue_add_to(shape, counts, places, verbs, points)
 }
 
-// The verbs and the points that the outline of a shape adds.
+/// The verbs and the points that the outline of a shape adds.
 #[unsafe(no_mangle)]
 pub extern "C" fn shackletongue_outline_need(shape: &[f32], need: &mut [u64]) -> u32
     ensures { needed result need.new ≡ outline_need_of shape.now need.old }
@@ -27,7 +27,7 @@ pub extern "C" fn shackletongue_outline_need(shape: &[f32], need: &mut [u64]) ->
     ffi_outline::shackletongue_outline_need(shape, need)
 }
 
-// The verbs and the points that a conic adds to the record, with the opening move of an empty one.
+/// The verbs and the points that a conic adds to the record, with the opening move of an empty one.
 #[unsafe(no_mangle)]
 pub extern "C" fn shackletongue_conic_need(
     counts: &[u64],
@@ -44,8 +44,8 @@ pub extern "C" fn shackletongue_conic_need(
     ffi_outline::shackletongue_conic_need(counts, places, cx, cy, x, y, weight, need)
 }
 
-// 1 where no center of the shape lies outside the bounds and every point of its outline is finite, else
-// 0. The bounds are the first four of the floats that the shape was made of.
+/// 1 where no center of the shape lies outside the bounds and every point of its outline is finite, else
+/// 0. The bounds are the first four of the floats that the shape was made of.
 #[unsafe(no_mangle)]
 pub extern "C" fn shackletongue_is_consistent(sizes: &[f32], shape: &[f32]) -> u32
     ensures { result ≡ consistency_of sizes.now shape.now }

@@ -1,12 +1,12 @@
-// The panel files of the crate ffi_panel.
+//! The panel files of the crate ffi_panel.
 
 ghost use Rattle.std.specs.Prelude.{◌≡◌};
 ghost use Rattle.octant.specs.Octant.{point};
 ghost use Rattle.ffi_panel.specs.Asking.{answered, left, record_of, place_of_touch, places_of_touches};
 
-// The record at the offset in place[0]: then place is the offset of the next one and the kind, 1 button,
-// 2 touch, 0 at the end of the file; its 12 or 2 floats go to the front of floats. With a 7,
-// place[0] is the offset of the first broken record.
+/// The record at the offset in place[0]: then place is the offset of the next one and the kind, 1 button,
+/// 2 touch, 0 at the end of the file; its 12 or 2 floats go to the front of floats. With a 7,
+/// place[0] is the offset of the first broken record.
 #[unsafe(no_mangle)]
 pub extern "C" fn shackletongue_record(file: &[u8], place: &mut [u64], floats: &mut [f32]) -> u32
     ensures { left result place.new floats.new ≡ record_of file.now place.old floats.old }
@@ -14,8 +14,8 @@ pub extern "C" fn shackletongue_record(file: &[u8], place: &mut [u64], floats: &
     ffi_panel::shackletongue_record(file, place, floats)
 }
 
-// The index of the first button that contains the point goes to place[0]. 101 where the touch goes
-// nowhere; with a 7, place[0] is the offset of the first broken record.
+/// The index of the first button that contains the point goes to place[0]. 101 where the touch goes
+/// nowhere; with a 7, place[0] is the offset of the first broken record.
 #[unsafe(no_mangle)]
 pub extern "C" fn shackletongue_touch(file: &[u8], x: f32, y: f32, place: &mut [u64]) -> u32
     ensures { answered result place.new ≡ place_of_touch file.now (point x y) place.old }
@@ -23,9 +23,9 @@ pub extern "C" fn shackletongue_touch(file: &[u8], x: f32, y: f32, place: &mut [
     ffi_panel::shackletongue_touch(file, x, y, place)
 }
 
-// `shackletongue_touch` for every touch of the file, in file order, each shape made once: the indices
-// go to the front of the 5,461 results, 0xffffffff for nowhere, and how many there are to place[0]. With
-// a 7, place[0] is the offset of the first broken record.
+/// `shackletongue_touch` for every touch of the file, in file order, each shape made once: the indices
+/// go to the front of the 5,461 results, 0xffffffff for nowhere, and how many there are to place[0]. With
+/// a 7, place[0] is the offset of the first broken record.
 #[unsafe(no_mangle)]
 pub extern "C" fn shackletongue_touch_all(
     file: &[u8],

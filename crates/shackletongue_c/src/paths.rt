@@ -1,4 +1,4 @@
-// The building calls of the crate ffi_path.
+//! The building calls of the crate ffi_path.
 
 ghost use Rattle.std.specs.Prelude.{◌≡◌};
 ghost use Rattle.ffi_path.specs.Lent.{point, left, lent_step};
@@ -49,7 +49,7 @@ pub extern "C" fn shackletongue_quad_to(
     ffi_path::shackletongue_quad_to(counts, places, verbs, points, cx, cy, x, y)
 }
 
-// The joint word is the third of the counts.
+/// The joint word is the third of the counts.
 #[unsafe(no_mangle)]
 pub extern "C" fn shackletongue_conic_to(
     counts: &mut [u64],

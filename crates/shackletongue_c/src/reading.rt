@@ -1,10 +1,10 @@
-// The readings of the crate ffi_reader.
+//! The readings of the crate ffi_reader.
 
 ghost use Rattle.std.specs.Prelude.{◌≡◌};
 ghost use Rattle.ffi_reader.specs.Segments.{read, read_of, boxed, box_of};
 
-// Reads the segment at the cursor: 0, 1 or 6. The cursor moves to the next segment and gets the kind of
-// this one (0 move, 1 line, 2 quad, 3 cubic, 4 close, 5 end).
+/// Reads the segment at the cursor: 0, 1 or 6. The cursor moves to the next segment and gets the kind of
+/// this one (0 move, 1 line, 2 quad, 3 cubic, 4 close, 5 end).
 #[unsafe(no_mangle)]
 pub extern "C" fn shackletongue_read(
     counts: &[u64],
@@ -19,8 +19,8 @@ pub extern "C" fn shackletongue_read(
     ffi_reader::shackletongue_read(counts, places, verbs, points, cursor, segment)
 }
 
-// The least box round all points: 0, 1 or 6, and then the index of the verb goes to the place. 101 where
-// there is no finite point.
+/// The least box round all points: 0, 1 or 6, and then the index of the verb goes to the place. 101 where
+/// there is no finite point.
 #[unsafe(no_mangle)]
 pub extern "C" fn shackletongue_box(
     counts: &[u64],

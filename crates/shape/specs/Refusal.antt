@@ -1,5 +1,5 @@
 -- What making a shape answers: document 01's causes 2, 3 and 4, the lower number first, or the shape. Definitions only.
-use Rattle.std.specs.Prelude.{ℕ, List, [], ◌∷◌, Bool, cond, not, ◌||◌, Float, Result, Ok, Err}
+use Rattle.std.specs.Prelude.{ℕ, List, Bool, not, ◌||◌, Float, Result, Ok, Err, if◌then◌else◌, codes}
 use Rattle.std.specs.Float.{binary32}
 use Rattle.std.specs.Float.Ieee.{of_bits, lt}
 use Rattle.std.specs.Float.Ieee.Scale.{finite}
@@ -59,13 +59,13 @@ number_of Inverted = 4
 
 -- what is told of a refusal
 abbrev pub beyond_text : List ℕ
-beyond_text = 97 ∷ 32 ∷ 98 ∷ 111 ∷ 117 ∷ 110 ∷ 100 ∷ 32 ∷ 111 ∷ 114 ∷ 32 ∷ 97 ∷ 32 ∷ 114 ∷ 97 ∷ 100 ∷ 105 ∷ 117 ∷ 115 ∷ 32 ∷ 105 ∷ 115 ∷ 32 ∷ 110 ∷ 111 ∷ 116 ∷ 32 ∷ 102 ∷ 105 ∷ 110 ∷ 105 ∷ 116 ∷ 101 ∷ 44 ∷ 32 ∷ 111 ∷ 114 ∷ 32 ∷ 111 ∷ 118 ∷ 101 ∷ 114 ∷ 32 ∷ 49 ∷ 54 ∷ 51 ∷ 56 ∷ 52 ∷ 32 ∷ 105 ∷ 110 ∷ 32 ∷ 109 ∷ 97 ∷ 103 ∷ 110 ∷ 105 ∷ 116 ∷ 117 ∷ 100 ∷ 101 ∷ []  -- `a bound or a radius is not finite, or over 16384 in magnitude`
+beyond_text = codes "a bound or a radius is not finite, or over 16384 in magnitude"
 
 abbrev pub negative_text : List ℕ
-negative_text = 97 ∷ 32 ∷ 114 ∷ 97 ∷ 100 ∷ 105 ∷ 117 ∷ 115 ∷ 32 ∷ 105 ∷ 115 ∷ 32 ∷ 98 ∷ 101 ∷ 108 ∷ 111 ∷ 119 ∷ 32 ∷ 122 ∷ 101 ∷ 114 ∷ 111 ∷ []  -- `a radius is below zero`
+negative_text = codes "a radius is below zero"
 
 abbrev pub inverted_text : List ℕ
-inverted_text = 109 ∷ 97 ∷ 120 ∷ 32 ∷ 105 ∷ 115 ∷ 32 ∷ 98 ∷ 101 ∷ 108 ∷ 111 ∷ 119 ∷ 32 ∷ 109 ∷ 105 ∷ 110 ∷ 32 ∷ 111 ∷ 110 ∷ 32 ∷ 97 ∷ 110 ∷ 32 ∷ 97 ∷ 120 ∷ 105 ∷ 115 ∷ []  -- `max is below min on an axis`
+inverted_text = codes "max is below min on an axis"
 
 abbrev pub refusal_text : ShapeError → List ℕ
 refusal_text BeyondLimit = beyond_text
@@ -80,7 +80,7 @@ outcome_of (Err e) = refused (number_of e)
 -- the first cause that is met, the lower number first, or the shape
 unfoldable pub new_of : Bounds → CornerRadii → Outcome
 new_of bounds radii =
-    cond (bounds_beyond bounds || radii_beyond radii) (refused 2)
-    (cond (radii_below radii) (refused 3)
-    (cond (inverted bounds) (refused 4)
-    (made (shape_of bounds radii))))
+    if bounds_beyond bounds || radii_beyond radii then refused 2
+    else (if radii_below radii then refused 3
+    else (if inverted bounds then refused 4
+    else made (shape_of bounds radii)))

@@ -1,5 +1,5 @@
 -- The shape that the Rust's `RoundSuperellipse::new` makes of any bounds and radii. Definitions only.
-use Rattle.std.specs.Prelude.{Bool, true, false, cond, ◌&&◌, List, [], ◌∷◌, Float}
+use Rattle.std.specs.Prelude.{Bool, true, false, ◌&&◌, List, [], ◌∷◌, Float, if◌then◌else◌}
 use Rattle.std.specs.Float.Ieee.{neg, eq, ne}
 use Rattle.geometry.specs.declared.Point.{Point}
 use Rattle.geometry.specs.Point.{one, add_of, shrink_of}
@@ -62,4 +62,4 @@ corners_in_order s = s.top_right ∷ s.bottom_right ∷ s.bottom_left ∷ s.top_
 
 -- RoundSuperellipse::new, refusals apart
 unfoldable pub shape_of : Bounds → CornerRadii → RoundSuperellipse
-shape_of bounds radii = cond (one_quadrant radii) (equal_shape bounds radii) (unequal_shape bounds radii)
+shape_of bounds radii = if one_quadrant radii then equal_shape bounds radii else unequal_shape bounds radii

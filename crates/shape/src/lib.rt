@@ -1,5 +1,5 @@
-// A rounded superellipse: four quadrants, made of bounds and corner radii, or a refusal.
-// With the Rust's names and in its order.
+//! A rounded superellipse: four quadrants, made of bounds and corner radii, or a refusal.
+//! With the Rust's names and in its order.
 
 #![tactic(auto)]
 
@@ -24,7 +24,7 @@ pub struct Bounds {
     pub max: Point,
 }
 
-// Four points named by corner, as document 01 has them, and no array.
+/// Four points named by corner, as document 01 has them, and no array.
 #[derive(Clone, Copy)]
 pub struct CornerRadii {
     pub top_left: Point,
@@ -33,8 +33,8 @@ pub struct CornerRadii {
     pub bottom_right: Point,
 }
 
-// Where all corners are the same, one quadrant describes all four, and containment mirrors the point. A yes or no beside the four,
-// and no enum, since document 01 has the record so.
+/// Where all corners are the same, one quadrant describes all four, and containment mirrors the point. A yes or no beside the four,
+/// and no enum, since document 01 has the record so.
 #[derive(Clone, Copy)]
 pub struct RoundSuperellipse {
     pub top_right: Quadrant,
@@ -44,7 +44,7 @@ pub struct RoundSuperellipse {
     pub all_corners_same: bool,
 }
 
-// Why bounds and radii make no shape.
+/// Why bounds and radii make no shape.
 #[derive(Clone, Copy, Debug, PartialEq, Eq)]
 pub enum ShapeError {
     BeyondLimit,
@@ -53,7 +53,7 @@ pub enum ShapeError {
 }
 
 impl ShapeError {
-    // Document 01's number of the cause: the C interface and the programs write it.
+    /// Document 01's number of the cause: the C interface and the programs write it.
     #[tactic(auto, unfolding(crate::specs::Refusal::number_of))]
     pub fn number(self) -> u8
         ensures { result ≡ number_of self }
@@ -150,7 +150,7 @@ fn frames(bounds: Bounds, radii: CornerRadii) -> [Frame; 4]
 fn unequal_shape(bounds: Bounds, radii: CornerRadii) -> RoundSuperellipse
     ensures { result ≡ unequal_shape bounds radii }
 {
-    let [top_right, bottom_right, bottom_left, top_left] = quadrants::solved(frames(bounds, radii));
+    let [top_right, bottom_right, bottom_left, top_left] = quadrant::four_quadrants(frames(bounds, radii));
     RoundSuperellipse {
         top_right,
         bottom_right,
@@ -237,7 +237,7 @@ fn is_inverted(bounds: Bounds) -> bool
 }
 
 impl RoundSuperellipse {
-    // The shape, or the first cause that the bounds and the radii give.
+    /// The shape, or the first cause that the bounds and the radii give.
     #[tactic(auto, unfolding(crate::specs::Refusal::new_of, crate::specs::Refusal::number_of, crate::specs::Refusal::outcome_of))]
     pub fn new(bounds: Bounds, radii: CornerRadii) -> Result<RoundSuperellipse, ShapeError>
         ensures { outcome_of result ≡ new_of bounds radii }

@@ -29,23 +29,23 @@ pub and-false : (x : Bool) → (x && false) ≡ false
 and-false true = refl
 and-false false = refl
 
-pub good_record : (b : Builder) (vn fn : ℕ) → bad_record b vn fn ≡ false → (b.verbs ≤ vn) × (b.points ≤ fn / 2)
+pub good_record : (b : Builder) (verb_room float_room : ℕ) → bad_record b verb_room float_room ≡ false → (b.verbs ≤ verb_room) × (b.points ≤ float_room / 2)
 unfolding bad_record
-good_record b vn fn e =
-    let l = or_left (ltb vn b.verbs || ltb (fn / 2) b.points) _ e in
-    (ltb-false _ _ (or_left _ _ l), ltb-false _ _ (or_right (ltb vn b.verbs) _ l))
+good_record b verb_room float_room e =
+    let l = or_left (ltb verb_room b.verbs || ltb (float_room / 2) b.points) _ e in
+    (ltb-false _ _ (or_left _ _ l), ltb-false _ _ (or_right (ltb verb_room b.verbs) _ l))
 
-pub room-is : (b : Builder) (vn fn : ℕ) (n : Need) → has_room b vn fn n ≡ true → (b.verbs + n.verbs ≤ vn) × (2 * (b.points + n.points) ≤ fn)
+pub room-is : (b : Builder) (verb_room float_room : ℕ) (n : Need) → has_room b verb_room float_room n ≡ true → (b.verbs + n.verbs ≤ verb_room) × (2 * (b.points + n.points) ≤ float_room)
 unfolding has_room
-room-is b vn fn n e =
-    let v = leb-true (b.verbs + n.verbs) vn (and_left _ _ e) in
-    let p = leb-true (b.points + n.points) (fn / 2) (and_right (leb (b.verbs + n.verbs) vn) _ e) in
+room-is b verb_room float_room n e =
+    let v = leb-true (b.verbs + n.verbs) verb_room (and_left _ _ e) in
+    let p = leb-true (b.points + n.points) (float_room / 2) (and_right (leb (b.verbs + n.verbs) verb_room) _ e) in
     omega arith
 
 -- room behind what is held is room for all
-leb_shift_go : (t : Bool) (v n vn : ℕ) → n ≤ vn → leb v (vn - n) ≡ t → leb v (vn - n) ≡ leb (n + v) vn
-leb_shift_go true v n vn h e = let g = leb-true v (vn - n) e in e ∙ sym (le-leb (n + v) vn (omega arith))
-leb_shift_go false v n vn h e = let g = leb-false v (vn - n) e in e ∙ sym (lt-leb (n + v) vn (omega arith))
+leb_shift_go : (t : Bool) (v n verb_room : ℕ) → n ≤ verb_room → leb v (verb_room - n) ≡ t → leb v (verb_room - n) ≡ leb (n + v) verb_room
+leb_shift_go true v n verb_room h e = let g = leb-true v (verb_room - n) e in e ∙ sym (le-leb (n + v) verb_room (omega arith))
+leb_shift_go false v n verb_room h e = let g = leb-false v (verb_room - n) e in e ∙ sym (lt-leb (n + v) verb_room (omega arith))
 
-pub leb_shift : (v n vn : ℕ) → n ≤ vn → leb v (vn - n) ≡ leb (n + v) vn
-leb_shift v n vn h = leb_shift_go _ v n vn h refl
+pub leb_shift : (v n verb_room : ℕ) → n ≤ verb_room → leb v (verb_room - n) ≡ leb (n + v) verb_room
+leb_shift v n verb_room h = leb_shift_go _ v n verb_room h refl

@@ -1,6 +1,6 @@
 -- A path in two lent buffers: a state is the record with the bytes and the floats lent. Elements are added behind the held ones, and what lies past
 -- them keeps what it had. Definitions only.
-use Rattle.std.specs.Prelude.{List, [], ◌∷◌, ◌++◌, Bool, ◌&&◌, ◌||◌, ℕ, zero, suc, ◌+◌, ◌*◌, ◌/◌, ◌^◌, ◌<◌, ◌≤◌, length, get_or, take, drop, leb, ltb, eqb, Float, Result, Ok, Err}
+use Rattle.std.specs.Prelude.{List, [], ◌∷◌, ◌++◌, Bool, ◌&&◌, ◌||◌, ℕ, zero, suc, ◌+◌, ◌*◌, ◌/◌, ◌^◌, ◌<◌, ◌≤◌, length, get_or, take, drop, nat_le, nat_lt, Float, Result, Ok, Err, ◌==◌, codes}
 use Rattle.std.specs.Float.{binary32, nan}
 use Rattle.std.specs.Float.Ieee.{of_bits}
 use Rattle.geometry.specs.declared.Point.{Point}
@@ -88,7 +88,7 @@ verb_in (suc (suc (suc (suc (suc n))))) = Err (record { byte = suc (suc (suc (su
 
 -- what is told of a byte that is no verb's, before the byte
 abbrev pub no_verb_text : List ℕ
-no_verb_text = 110 ∷ 111 ∷ 32 ∷ 118 ∷ 101 ∷ 114 ∷ 98 ∷ 32 ∷ 104 ∷ 97 ∷ 115 ∷ 32 ∷ 116 ∷ 104 ∷ 101 ∷ 32 ∷ 98 ∷ 121 ∷ 116 ∷ 101 ∷ 32 ∷ []  -- `no verb has the byte `
+no_verb_text = codes "no verb has the byte "
 
 -- ---- the record
 
@@ -100,19 +100,19 @@ abbrev pub fresh_builder : Builder
 fresh_builder = record { verbs = 0; points = 0; start = origin; pen = origin }
 
 abbrev pub is_empty : Builder → Bool
-is_empty b = eqb b.verbs 0
+is_empty b = b.verbs == 0
 
 -- cause 1, for buffers of vn bytes and fn floats: more verbs than places, more points than pairs of floats, or points with no verb
 unfoldable pub bad_record : Builder → ℕ → ℕ → Bool
-bad_record b vn fn = ltb vn b.verbs || ltb (fn / 2) b.points || (eqb b.verbs 0 && ltb 0 b.points)
+bad_record b verb_room float_room = nat_lt verb_room b.verbs || nat_lt (float_room / 2) b.points || (b.verbs == 0 && nat_lt 0 b.points)
 
 -- what is told of it
 abbrev pub bad_record_text : List ℕ
-bad_record_text = 116 ∷ 104 ∷ 101 ∷ 32 ∷ 114 ∷ 101 ∷ 99 ∷ 111 ∷ 114 ∷ 100 ∷ 32 ∷ 100 ∷ 111 ∷ 101 ∷ 115 ∷ 32 ∷ 110 ∷ 111 ∷ 116 ∷ 32 ∷ 115 ∷ 117 ∷ 105 ∷ 116 ∷ 32 ∷ 116 ∷ 104 ∷ 101 ∷ 32 ∷ 98 ∷ 117 ∷ 102 ∷ 102 ∷ 101 ∷ 114 ∷ 115 ∷ []  -- `the record does not suit the buffers`
+bad_record_text = codes "the record does not suit the buffers"
 
 -- a verb per place, a point per whole pair of floats
 unfoldable pub has_room : Builder → ℕ → ℕ → Need → Bool
-has_room b vn fn n = leb (b.verbs + n.verbs) vn && leb (b.points + n.points) (fn / 2)
+has_room b verb_room float_room n = nat_le (b.verbs + n.verbs) verb_room && nat_le (b.points + n.points) (float_room / 2)
 
 abbrev pub need_of : List Element → Need
 need_of ks = record { verbs = length ks; points = sizes_of ks }

@@ -1,5 +1,5 @@
-// A path as a stream over two lent buffers: a byte per verb, two floats per point. The record of what
-// is held goes by value.
+//! A path as a stream over two lent buffers: a byte per verb, two floats per point. The record of what
+//! is held goes by value.
 
 #![tactic(auto)]
 
@@ -11,9 +11,9 @@ use std::error::Error;
 use std::fmt;
 use std::ops::Add;
 
-// How much of the buffers is held, the contour's start and the pen. Start and pen mean nothing while
-// no verb is held. The counts stand apart: side by side they would be read as one, and the processor waits where
-// two writes are read at once.
+/// How much of the buffers is held, the contour's start and the pen. Start and pen mean nothing while
+/// no verb is held. The counts stand apart: side by side they would be read as one, and the processor waits where
+/// two writes are read at once.
 #[derive(Clone, Copy, Debug)]
 pub struct Builder {
     pub verbs: usize,
@@ -22,8 +22,8 @@ pub struct Builder {
     pub pen: Point,
 }
 
-// The byte of each element in the buffer of verbs: 0 to 4, in this order. In the buffer it stays a byte: document 01 fixes
-// it so, and C lends bytes.
+/// The byte of each element in the buffer of verbs: 0 to 4, in this order. In the buffer it stays a byte: document 01 fixes
+/// it so, and C lends bytes.
 #[derive(Clone, Copy, Debug, PartialEq, Eq)]
 pub enum Verb {
     Move,
@@ -33,7 +33,7 @@ pub enum Verb {
     Close,
 }
 
-// A byte over 4, which is no verb.
+/// A byte over 4, which is no verb.
 #[derive(Clone, Copy, Debug, PartialEq, Eq)]
 pub struct UnknownVerb {
     pub byte: u8,
@@ -79,7 +79,7 @@ impl Verb {
         }
     }
 
-    // How many points it consumes.
+    /// How many points it consumes.
     #[tactic(auto, unfolding(crate::specs::Stream::point_count))]
     pub fn point_count(self) -> usize
         ensures { result ≡ point_count (byte_of self) }
@@ -94,7 +94,7 @@ impl Verb {
     }
 }
 
-// How many points the verb of a byte consumes: a byte that is no verb's consumes none.
+/// How many points the verb of a byte consumes: a byte that is no verb's consumes none.
 #[tactic(auto, unfolding(crate::specs::Stream::point_count, crate::specs::Stream::verb_in))]
 pub fn point_count(verb: u8) -> usize
     ensures { result ≡ point_count verb }
@@ -102,7 +102,7 @@ pub fn point_count(verb: u8) -> usize
     Verb::try_from(verb).map_or(0, Verb::point_count)
 }
 
-// What a path is made of.
+/// What a path is made of.
 #[derive(Clone, Copy)]
 pub enum Element {
     Move(Point),
@@ -164,9 +164,9 @@ pub fn is_empty(b: Builder) -> bool
     b.verbs == 0
 }
 
-// Cause 1: the record does not suit buffers of these lengths. A division, since twice the point count
-// may overflow. The lengths go one by one, here and in the calls above: each is the `len()` of a lent slice, and a struct of
-// both would be made for one use.
+/// Cause 1: the record does not suit buffers of these lengths. A division, since twice the point count
+/// may overflow. The lengths go one by one, here and in the calls above: each is the `len()` of a lent slice, and a struct of
+/// both would be made for one use.
 #[tactic(auto, unfolding(crate::specs::Stream::bad_record))]
 pub fn bad_record(b: Builder, verbs: usize, floats: usize) -> bool
     ensures { result ≡ bad_record b verbs floats }
@@ -183,7 +183,7 @@ pub fn bad_record(b: Builder, verbs: usize, floats: usize) -> bool
     false
 }
 
-// Whether so much more has room in buffers of these lengths.
+/// Whether so much more has room in buffers of these lengths.
 pub fn has_room(b: Builder, verbs: usize, floats: usize, need: Need) -> bool
     ensures { result ≡ has_room b verbs floats need }
 {
@@ -243,7 +243,7 @@ fn advance(b: Builder, e: Element) -> Builder
     }
 }
 
-// A point to the floats from `at` on, and the point that stands there.
+/// A point to the floats from `at` on, and the point that stands there.
 pub fn put_point(floats: &mut [f32], at: usize, p: Point)
     requires { at + 2 ≤ length floats.old }
     ensures { floats.new ≡ put floats.old at (floats_in (p ∷ [])) }
@@ -284,7 +284,7 @@ fn put_points(points: &mut [f32], at: usize, e: Element)
     }
 }
 
-// One element behind the held ones, for which there is room.
+/// One element behind the held ones, for which there is room.
 pub fn push(b: Builder, verbs: &mut [u8], points: &mut [f32], e: Element) -> Builder
     requires { (b.verbs < length verbs.old) × (2 * (b.points + size_of e) ≤ length points.old) }
     ensures { state result verbs.new points.new ≡ push (state b verbs.old points.old) e }

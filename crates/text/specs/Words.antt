@@ -1,14 +1,14 @@
 -- The words of a line of text, and where a line ends. A line is the list of its bytes. Definitions only.
-use Rattle.std.specs.Prelude.{ℕ, Bool, false, not, cond, List, take, drop, eqb}
+use Rattle.std.specs.Prelude.{ℕ, Bool, false, not, List, take, drop, if◌then◌else◌, ◌==◌}
 use Rattle.std.specs.List.{prefix_len}
 use Rattle.text.specs.declared.words.Class.{Class}
 use Rattle.text.specs.declared.words.Class.TheVariants.{Blank, Word, Line}
 
 -- a blank, byte 32, parts words; a word goes up to a blank or a `#`, byte 35; a line goes up to its end, byte 10
 unfoldable pub belongs_to : Class → ℕ → Bool
-belongs_to Blank b = eqb b 32
-belongs_to Word b = cond (eqb b 32) false (not (eqb b 35))
-belongs_to Line b = not (eqb b 10)
+belongs_to Blank b = (b == 32)
+belongs_to Word b = if b == 32 then false else not (b == 35)
+belongs_to Line b = not (b == 10)
 
 -- how many elements in front pass the test
 abbrev pub leading_of : (ℕ → Bool) → List ℕ → ℕ

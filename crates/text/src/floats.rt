@@ -99,7 +99,7 @@ impl FloatWord for f64 {
     }
 }
 
-// The float that a word spells.
+/// The float that a word spells.
 #[tactic(auto, unfolding(crate::specs::Numbers::float_of))]
 pub fn read_float<F: FloatWord>(s: &[u8]) -> Option<F>
     ensures { result ≡ float_of F.DIGITS F.of_bits F.nan s.now }
@@ -139,7 +139,7 @@ fn write_digits<W: fmt::Write>(f: &mut fmt::Formatter<W>, n: u64, digits: usize)
     f.write_str(text)
 }
 
-// All 16 digits of a number, written as `put` writes.
+/// All 16 digits of a number, written as `put` writes.
 #[tactic(auto, unfolding(crate::specs::Written::hexadecimal_text))]
 pub fn put_hexadecimal(out: &mut [u8], at: usize, n: u64) -> usize
     ensures { Wrote out.old at (hexadecimal_text n) result out.new }
@@ -147,8 +147,8 @@ pub fn put_hexadecimal(out: &mut [u8], at: usize, n: u64) -> usize
     put(out, at, digits_in(&mut [0u8; 16], n, 16))
 }
 
-// A float as a word, written as `put` writes. Of an f32 the text is `single_text`, of an f64
-// `double_text`, which are these words.
+/// A float as a word, written as `put` writes. Of an f32 the text is `single_text`, of an f64
+/// `double_text`, which are these words.
 #[tactic(auto, unfolding(crate::specs::Written::float_text))]
 pub fn put_float<F: FloatWord>(out: &mut [u8], at: usize, x: F) -> usize
     ensures { Wrote out.old at (float_text F.DIGITS F.bits_of x) result out.new }
@@ -159,7 +159,7 @@ pub fn put_float<F: FloatWord>(out: &mut [u8], at: usize, x: F) -> usize
     }
 }
 
-// All 16 digits of a number.
+/// All 16 digits of a number.
 #[derive(Clone, Copy)]
 pub struct Hexadecimal(pub u64);
 
@@ -172,7 +172,7 @@ impl fmt::Display for Hexadecimal {
     }
 }
 
-// A float that is written as a word.
+/// A float that is written as a word.
 #[derive(Clone, Copy)]
 pub struct Spelled<F>(pub F);
 

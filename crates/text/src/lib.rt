@@ -1,5 +1,5 @@
-// Words, numbers and floats as lines of text hold them, in ASCII: a float is the lower-case
-// hexadecimal digits of its bits, 8 of a single and 16 of a double, or `nan`.
+//! Words, numbers and floats as lines of text hold them, in ASCII: a float is the lower-case
+//! hexadecimal digits of its bits, 8 of a single and 16 of a double, or `nan`.
 
 #![tactic(auto)]
 

@@ -26,8 +26,8 @@ fn with_digit(n: u64, b: u8, base: u64) -> Option<u64>
     n.checked_mul(base)?.checked_add(d)
 }
 
-// The number that a word's digits spell. `from_str_radix` does not serve: it takes a sign and digits
-// in upper case too.
+/// The number that a word's digits spell. `from_str_radix` does not serve: it takes a sign and digits
+/// in upper case too.
 #[tactic(auto, unfolding(crate::specs::Numbers::number_of))]
 pub fn read_number(s: &[u8], base: u64) -> Option<u64>
     ensures { result ≡ number_of base s.now }

@@ -5,7 +5,7 @@ ghost use Rattle.std.specs.Prelude.{not};
 ghost use Rattle.text.specs.Words.{belongs_to, leading_of, after_blanks, first_word, after_word};
 ghost use Rattle.std.specs.Prelude.{◌<◌, MatchOption, IfSome};
 
-// What a byte of a line may belong to.
+/// What a byte of a line may belong to.
 #[derive(Clone, Copy)]
 pub enum Class {
     Blank,
@@ -33,7 +33,7 @@ fn end_of(s: &[u8], class: Class) -> Option<usize>
     s.iter().position(|&b| !class.takes(b))
 }
 
-// How many bytes in front belong to the class.
+/// How many bytes in front belong to the class.
 pub fn leading(s: &[u8], class: Class) -> usize
     ensures value { result ≡ leading_of (belongs_to class) s.now }
     ensures upper_bound { result ≤ length s.now }
@@ -48,7 +48,7 @@ fn after_blanks(s: &[u8]) -> &[u8]
     &s[leading(s, Class::Blank)..]
 }
 
-// The first word of a line, and what follows it; none where the line has no word.
+/// The first word of a line, and what follows it; none where the line has no word.
 #[tactic(auto, unfolding(crate::specs::Words::first_word, crate::specs::Words::after_word))]
 pub fn split_word(s: &[u8]) -> Option<(&[u8], &[u8])>
     ensures parts { MatchOption result (length (first_word s.now) ≡ 0) (λ p. (p.0.now ≡ first_word s.now) × (p.1.now ≡ after_word s.now)) }
@@ -62,7 +62,7 @@ pub fn split_word(s: &[u8]) -> Option<(&[u8], &[u8])>
     Some(t.split_at(n))
 }
 
-// What follows the first word.
+/// What follows the first word.
 #[tactic(auto, unfolding(crate::specs::Words::after_word))]
 pub fn after_word(s: &[u8]) -> &[u8]
     ensures { result.now ≡ after_word s.now }

@@ -1,5 +1,5 @@
 -- Document 01's module 7: which button of a panel file a touch goes to, counted from 0 over the button records. Definitions only.
-use Rattle.std.specs.Prelude.{ℕ, suc, Bool, true, false, cond, List, [], ◌∷◌, ◌++◌, map, length, drop, eqb, Option, Some, None, Result, Ok, Err}
+use Rattle.std.specs.Prelude.{ℕ, suc, Bool, true, false, List, [], ◌∷◌, ◌++◌, map, length, drop, Option, Some, None, Result, Ok, Err, if◌then◌else◌, ◌==◌}
 use Rattle.geometry.specs.declared.Point.{Point}
 use Rattle.panel_file.specs.declared.Broken.{Broken}
 use Rattle.panel_file.specs.declared.Button.{Button}
@@ -69,7 +69,7 @@ code_of (button i) = i
 code_of nowhere = nowhere_code
 
 unfoldable pub place_of : ℕ → Place
-place_of n = cond (eqb n nowhere_code) nowhere (button n)
+place_of n = if n == nowhere_code then nowhere else button n
 
 -- what a call answers and what it leaves in the results
 pub data Left : Type 0 where

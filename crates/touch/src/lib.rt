@@ -1,5 +1,5 @@
-// Which button of a panel file a touch goes to: document 01's module 7, for one point and for all
-// touches of the file at once.
+//! Which button of a panel file a touch goes to: document 01's module 7, for one point and for all
+//! touches of the file at once.
 
 #![tactic(auto)]
 
@@ -17,13 +17,13 @@ use geometry::Point;
 use panel_file::{Broken, Button, PanelFile, Record};
 use shape::{Bounds, CornerRadii, RoundSuperellipse, ShapeError};
 
-// The most touches that a file of 65,536 bytes holds. An array of the largest size and no Vec: the library has no heap.
+/// The most touches that a file of 65,536 bytes holds. An array of the largest size and no Vec: the library has no heap.
 pub const MOST_TOUCHES: usize = 5461;
 
-// Stays a number: the exported call lends numbers for the results, and this one says that a touch goes nowhere.
+/// Stays a number: the exported call lends numbers for the results, and this one says that a touch goes nowhere.
 pub const NOWHERE: u32 = 0xffff_ffff;
 
-// A button's shape, or why it has none.
+/// A button's shape, or why it has none.
 #[tactic(auto, unfolding(crate::specs::Touch::shape_of))]
 pub fn shape_of(button: Button) -> Result<RoundSuperellipse, ShapeError>
     ensures { outcome_of result ≡ shape_of button }
@@ -152,7 +152,7 @@ fn place(file: &PanelFile, p: Point) -> Option<usize>
     Some(found as usize)
 }
 
-// Where a touch at p goes, looking through the whole file.
+/// Where a touch at p goes, looking through the whole file.
 #[tactic(auto, unfolding(crate::specs::Touch::touch_of, crate::specs::Touch::touched_of, panel_file::specs::File::opened_of, panel_file::specs::Panel::on_done))]
 pub fn touch(file: &[u8], p: Point) -> Result<Option<usize>, Broken>
     ensures { touched_of result ≡ touch_of file.now p }
@@ -189,7 +189,7 @@ fn gather(file: &PanelFile, points: &mut [f32])
     }
 }
 
-// Where the touches of a good file go, in file order; the answer counts them. Results past them stay as they were.
+/// Where the touches of a good file go, in file order; the answer counts them. Results past them stay as they were.
 pub fn places(file: &PanelFile, results: &mut [u32; 5461]) -> usize
     ensures count { result ≡ length (touches_of (records file.now)) }
     ensures results_after { results.new ≡ places_of (records file.now) ++ drop result results.old }
@@ -202,7 +202,7 @@ pub fn places(file: &PanelFile, results: &mut [u32; 5461]) -> usize
     n
 }
 
-// `touch` for every touch of the file, in file order, each shape made once. Results past the file's touches stay as they were.
+/// `touch` for every touch of the file, in file order, each shape made once. Results past the file's touches stay as they were.
 pub fn touch_all(file: &[u8], results: &mut [u32; 5461]) -> Result<usize, Broken>
     ensures { left (count_of result) results.new ≡ touch_all_of file.now results.old }
 {

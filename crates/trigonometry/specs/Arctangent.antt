@@ -1,5 +1,5 @@
 -- Document 01's atan2. The steps are binary64, each rounded once, in the order written there; only the result is narrowed. Definitions only.
-use Rattle.std.specs.Prelude.{ℕ, cond, not, ◌&&◌, Float}
+use Rattle.std.specs.Prelude.{ℕ, not, ◌&&◌, Float, if◌then◌else◌}
 use Rattle.std.specs.Float.{nan, binary64}
 use Rattle.std.specs.Float.Ieee.{add, sub, mul, div, neg, lt, le, eq}
 use Rattle.std.specs.Float.Ieee.Scale.{finite}
@@ -19,28 +19,28 @@ series_of r = mul binary64 r (H arctangent_term (mul binary64 r r) 25)
 -- A(r) = T(r) for r ≤ 0.5, else PI/4 + T((r - 1)/(r + 1))
 unfoldable pub arctangent_of : Float → Float
 arctangent_of r =
-    cond (le r half) (series_of r)
-    (add binary64 (div binary64 pi four) (series_of (div binary64 (sub binary64 r one) (add binary64 r one))))
+    if le r half then series_of r
+    else add binary64 (div binary64 pi four) (series_of (div binary64 (sub binary64 r one) (add binary64 r one)))
 
 -- A(a/b) if a ≤ b, else PI/2 - A(b/a)
 unfoldable pub quarter_of : Float → Float → Float
 quarter_of a b =
-    cond (le a b) (arctangent_of (div binary64 a b))
-    (sub binary64 (div binary64 pi two) (arctangent_of (div binary64 b a)))
+    if le a b then arctangent_of (div binary64 a b)
+    else sub binary64 (div binary64 pi two) (arctangent_of (div binary64 b a))
 
 -- PI - v if x < 0
 unfoldable pub mirrored_of : Float → Float → Float
-mirrored_of x v = cond (lt x zero) (sub binary64 pi v) v
+mirrored_of x v = if lt x zero then sub binary64 pi v else v
 
 -- -v if y < 0, which -0 is not
 unfoldable pub signed_of : Float → Float → Float
-signed_of y v = cond (lt y zero) (neg v) v
+signed_of y v = if lt y zero then neg v else v
 
 -- either not finite: NaN; both zero: 0; else by a = |y| and b = |x|
 unfoldable pub atan2_of : Float → Float → Float
 atan2_of y x =
     let wy = widen_of y in
     let wx = widen_of x in
-    cond (not (finite wy && finite wx)) nan
-    (cond (eq wy zero && eq wx zero) zero
-    (narrow_of (signed_of wy (mirrored_of wx (quarter_of (abs_of wy) (abs_of wx))))))
+    if not (finite wy && finite wx) then nan
+    else (if eq wy zero && eq wx zero then zero
+    else narrow_of (signed_of wy (mirrored_of wx (quarter_of (abs_of wy) (abs_of wx)))))

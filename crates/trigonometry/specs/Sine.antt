@@ -1,5 +1,5 @@
 -- Document 01's sine, cosine and tangent. The steps are binary64, each rounded once, in the order written there; only the results are narrowed. Definitions only.
-use Rattle.std.specs.Prelude.{ℕ, ◌+◌, ◌*◌, cond, ◌||◌, List, map, Float}
+use Rattle.std.specs.Prelude.{ℕ, ◌+◌, ◌*◌, ◌||◌, List, map, Float, if◌then◌else◌}
 use Rattle.std.specs.Float.{nan, binary64}
 use Rattle.std.specs.Float.Ieee.{sub, mul, div, lt, ne}
 use Rattle.std.specs.Simd.Lanes.{zip2}
@@ -36,8 +36,8 @@ doubled_of p =
 -- a NaN, or a magnitude over 8: NaN both; else doubled four times
 unfoldable pub pair_of : Float → Pair
 pair_of t =
-    cond (ne t t || lt eight (abs_of t)) (record { s = nan; c = nan })
-    (doubled_of (doubled_of (doubled_of (doubled_of (sixteenth_of t)))))
+    if ne t t || lt eight (abs_of t) then record { s = nan; c = nan }
+    else doubled_of (doubled_of (doubled_of (doubled_of (sixteenth_of t))))
 
 unfoldable pub sin_cos_of : Float → SinCos
 sin_cos_of t = let p = pair_of (widen_of t) in record { sin = narrow_of p.s; cos = narrow_of p.c }

@@ -1,5 +1,5 @@
 -- The last rule of atan2 in stages, so that several angles can go in step, and where it applies. Cited by the contracts of inner functions. Definitions only.
-use Rattle.std.specs.Prelude.{Bool, cond, not, ◌&&◌, Float}
+use Rattle.std.specs.Prelude.{Bool, not, ◌&&◌, Float, if◌then◌else◌}
 use Rattle.std.specs.Float.{binary64}
 use Rattle.std.specs.Float.Ieee.{sub, div, eq, le}
 use Rattle.std.specs.Float.Ieee.Scale.{finite}
@@ -17,11 +17,11 @@ place_of y x = record { y = widen_of y; x = widen_of x }
 
 -- what A is taken of: the lesser of |y| and |x| over the greater
 unfoldable pub ratio_of : Place → Float
-ratio_of p = cond (le (abs_of p.y) (abs_of p.x)) (div binary64 (abs_of p.y) (abs_of p.x)) (div binary64 (abs_of p.x) (abs_of p.y))
+ratio_of p = if le (abs_of p.y) (abs_of p.x) then div binary64 (abs_of p.y) (abs_of p.x) else div binary64 (abs_of p.x) (abs_of p.y)
 
 -- the angle, from A of the ratio
 unfoldable pub turned_of : Place → Float → Float
-turned_of p v = signed_of p.y (mirrored_of p.x (cond (le (abs_of p.y) (abs_of p.x)) v (sub binary64 (div binary64 pi two) v)))
+turned_of p v = signed_of p.y (mirrored_of p.x (if le (abs_of p.y) (abs_of p.x) then v else sub binary64 (div binary64 pi two) v))
 
 -- the angle, before it is narrowed
 unfoldable pub angle_of : Place → Float

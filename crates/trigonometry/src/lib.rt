@@ -1,9 +1,9 @@
-// Sine, cosine, tangent and the angle of a point, as document 01's float ground writes them out. The
-// steps are f64, each rounded once in the order written there; only the results are narrowed.
+//! Sine, cosine, tangent and the angle of a point, as document 01's float ground writes them out. The
+//! steps are f64, each rounded once in the order written there; only the results are narrowed.
 
 #![tactic(auto)]
 
-ghost use Rattle.std.specs.Prelude.{◌≡◌, ◌<◌, ◌^◌, map, cond, not, true, ◌&&◌, ◌||◌, Bool};
+ghost use Rattle.std.specs.Prelude.{◌≡◌, ◌<◌, ◌^◌, map, not, true, ◌&&◌, ◌||◌, Bool, if◌then◌else◌};
 ghost use Rattle.std.specs.List.{list_all};
 ghost use Rattle.std.specs.Float.Ieee.Scale.{finite};
 ghost use Rattle.std.specs.Float.{nan, binary64};
@@ -24,14 +24,14 @@ pub struct SinCos {
     pub cos: f32,
 }
 
-// A sine and a cosine, before they are narrowed.
+/// A sine and a cosine, before they are narrowed.
 #[derive(Clone, Copy)]
 pub struct Pair {
     pub s: f64,
     pub c: f64,
 }
 
-// N of them, the sines and the cosines each in an array of their own, so that a step is the same for all of an array.
+/// N of them, the sines and the cosines each in an array of their own, so that a step is the same for all of an array.
 #[derive(Clone, Copy)]
 pub struct Pairs<const N: usize> {
     pub s: [f64; N],
@@ -93,7 +93,7 @@ fn in_range(t: f32) -> bool
 // An angle, widened; one that has no sine becomes a NaN, whose sine and cosine are NaNs.
 #[tactic(auto, using(ieee::proofs::Specials::nan64_is, crate::proofs::Range::widened), unfolding(ieee::specs::Basic::widen_of))]
 fn bounded(t: f32) -> f64
-    ensures { result ≡ cond (ne t t || lt eight (abs_of t)) nan (widen_of t) }
+    ensures { result ≡ (if ne t t || lt eight (abs_of t) then nan else widen_of t) }
 {
     if in_range(t) {
         return t as f64;
@@ -101,7 +101,7 @@ fn bounded(t: f32) -> f64
     0.0 / 0.0
 }
 
-// The sines and cosines of N angles, in step.
+/// The sines and cosines of N angles, in step.
 pub fn pairs_at<const N: usize>(t: [f32; N]) -> Pairs<N>
     ensures { result ≡ apart (map (λ x. pair_of (widen_of x)) t.entry) }
 {
@@ -158,7 +158,7 @@ fn arctangent_coefficients() -> [f64; 26]
 
 // The number at which A of document 01 takes the series.
 fn reduced(r: f64) -> f64
-    ensures { result ≡ cond (le r half) r (div binary64 (sub binary64 r one) (add binary64 r one)) }
+    ensures { result ≡ (if le r half then r else div binary64 (sub binary64 r one) (add binary64 r one)) }
 {
     if r <= 0.5 {
         return r;
@@ -168,7 +168,7 @@ fn reduced(r: f64) -> f64
 
 // A of document 01, from the value v of its series.
 fn raised(r: f64, v: f64) -> f64
-    ensures { result ≡ cond (le r half) v (add binary64 (div binary64 pi four) v) }
+    ensures { result ≡ (if le r half then v else add binary64 (div binary64 pi four) v) }
 {
     if r <= 0.5 {
         return v;
@@ -206,7 +206,7 @@ fn widened(y: f32, x: f32) -> Place
 
 // The lesser of the two and the greater; of two that are level, the first first.
 fn in_order(a: f64, b: f64) -> (f64, f64)
-    ensures { result ≡ cond (le a b) (a, b) (b, a) }
+    ensures { result ≡ (if le a b then (a, b) else (b, a)) }
 {
     if a <= b {
         return (a, b);
@@ -224,7 +224,7 @@ fn ratio(p: Place) -> f64
 
 // The angle of the point (|x|, |y|), at most a quarter turn, from A of its ratio.
 fn quarter(p: Place, v: f64) -> f64
-    ensures { result ≡ cond (le (abs_of p.y) (abs_of p.x)) v (sub binary64 (div binary64 pi two) v) }
+    ensures { result ≡ (if le (abs_of p.y) (abs_of p.x) then v else sub binary64 (div binary64 pi two) v) }
 {
     if ieee::abs_f64(p.y) <= ieee::abs_f64(p.x) {
         return v;
@@ -305,8 +305,8 @@ fn angles_apart<const N: usize>(y: [f32; N], x: [f32; N]) -> [f32; N]
     lanes::pairwise(y, x, atan2)
 }
 
-// The angles of N points. They go in step where none is a special case, so that none waits for another. N places of two f64 fit in
-// memory, which the types do not say.
+/// The angles of N points. They go in step where none is a special case, so that none waits for another. N places of two f64 fit in
+/// memory, which the types do not say.
 pub fn angles<const N: usize>(y: [f32; N], x: [f32; N]) -> [f32; N]
     requires { N < 2 ^ 59 }
     ensures { result ≡ zip2 atan2_of y.entry x.entry }
@@ -317,8 +317,8 @@ pub fn angles<const N: usize>(y: [f32; N], x: [f32; N]) -> [f32; N]
     angles_apart(y, x)
 }
 
-// The angles of N points (x, y) and of N others (u, v). The two series stand one behind the other, so that a processor begins the
-// second while the first, the longest wait, goes on. The bound on N is that of `angles`.
+/// The angles of N points (x, y) and of N others (u, v). The two series stand one behind the other, so that a processor begins the
+/// second while the first, the longest wait, goes on. The bound on N is that of `angles`.
 pub fn angles_of_both<const N: usize>(
     y: [f32; N],
     x: [f32; N],
@@ -340,4 +340,24 @@ pub fn angles_of_both<const N: usize>(
         return (lanes::narrow(a), lanes::narrow(b));
     }
     (angles(y, x), angles(v, u))
+}
+
+/// N pairs of f64 fit in memory, which the types of t and the result do not say.
+pub fn sines_and_cosines<const N: usize>(t: [f32; N]) -> [SinCos; N]
+    requires { N < 2 ^ 59 }
+    ensures { result ≡ map sin_cos_of t.entry }
+{
+    let p = pairs_at(t);
+    let sines = lanes::narrow(p.s);
+    let cosines = lanes::narrow(p.c);
+    lanes::pairwise(sines, cosines, |sin, cos| SinCos { sin, cos })
+}
+
+/// The bound on N is that of `sines_and_cosines`.
+pub fn tangents<const N: usize>(t: [f32; N]) -> [f32; N]
+    requires { N < 2 ^ 59 }
+    ensures { result ≡ map tan_of t.entry }
+{
+    let p = pairs_at(t);
+    lanes::narrow(lanes::pairwise(p.s, p.c, |s, c| s / c))
 }

@@ -8,7 +8,7 @@ use Rattle.stream.specs.declared.Element.TheVariants.{Move, Line, Quad, Cubic, C
 use Rattle.stream.specs.declared.Need.{Need}
 use Rattle.stream.specs.Stream.{State, state, is_empty, size_of, point_count, verb_of}
 use Rattle.stream.proofs.Pushed.{count_verb_lem}
-use Rattle.lowering.specs.Entries.{plain}
+use Rattle.conic_writer.specs.Entries.{plain}
 use Rattle.calls.specs.Calls.{opened_need}
 use Rattle.calls.proofs.Admission.{passed_on}
 use Rattle.calls.proofs.Opened.{one-need, one-room, one-done, one-admitted, opened-refused, opened-counts}

@@ -2,7 +2,7 @@ use Rattle.calls.proofs.Admission.{admitted_for, passed_on, refused-is, done-is}
 use Rattle.calls.proofs.Opening.{closing_empty, closing-held}
 use Rattle.std.proofs.Common.{rules}
 use Rattle.calls.specs.Calls.{closing, entries_of, admit_of, step}
-use Rattle.lowering.specs.Entries.{plain, elements_of, pieces_in}
+use Rattle.conic_writer.specs.Entries.{plain, elements_of, pieces_in}
 use Rattle.stream.proofs.Pushed.{push_all-one}
 use Rattle.stream.proofs.Tests.{room-is}
 use Rattle.stream.specs.Stream.{State, state, is_empty, sizes_of, push_all}

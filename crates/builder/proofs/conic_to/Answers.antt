@@ -6,8 +6,8 @@ use Rattle.conic.specs.declared.Lowered.TheVariants as lowered
 use Rattle.conic.proofs.Vectors.{of_pairs}
 use Rattle.stream.specs.declared.Element.TheVariants.{Line, Quad}
 use Rattle.stream.specs.Stream.{State, state, is_empty}
-use Rattle.lowering.specs.Entries.{plain, lowered_of}
-use Rattle.lowering.proofs.Entries.{lowered_line, lowered_flat}
+use Rattle.conic_writer.specs.Entries.{plain, lowered_of}
+use Rattle.conic_writer.proofs.Entries.{lowered_line, lowered_flat}
 use Rattle.calls.specs.Calls.{opening, attempt}
 use Rattle.calls.proofs.Opened.{one_marked, conic-step}
 use Rattle.builder.proofs.conic_to.Goals as goal

@@ -1,7 +1,7 @@
 use Rattle.calls.proofs.Admission.{admitted, passed_on, refused-is, done-is}
 use Rattle.std.proofs.Common.{rules}
 use Rattle.calls.specs.Calls.{entries_of, step}
-use Rattle.lowering.specs.Entries.{plain, elements_of, pieces_in}
+use Rattle.conic_writer.specs.Entries.{plain, elements_of, pieces_in}
 use Rattle.stream.proofs.Pushed.{push_all-one}
 use Rattle.stream.proofs.Tests.{room-is}
 use Rattle.stream.specs.Stream.{State, state, sizes_of}

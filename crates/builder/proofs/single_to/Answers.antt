@@ -6,7 +6,7 @@ use Rattle.conic.specs.Vectors.{point_in}
 use Rattle.stream.specs.declared.Element.{Element}
 use Rattle.stream.specs.declared.Element.TheVariants.{Quad}
 use Rattle.stream.specs.Stream.{State, state}
-use Rattle.lowering.specs.Entries.{plain}
+use Rattle.conic_writer.specs.Entries.{plain}
 use Rattle.calls.proofs.Admission.{passed_on}
 use Rattle.calls.proofs.Opened.{one-need, one-room, one-done, one-admitted, opened-refused, opened-counts}
 use Rattle.builder.proofs.Held.{need_held, state_held}

@@ -7,8 +7,8 @@ use Rattle.conic.specs.declared.Lowered.TheVariants as lowered
 use Rattle.conic.specs.Vectors.{point_in, conic_in}
 use Rattle.conic.specs.Halving.{pieces_of}
 use Rattle.stream.specs.Stream.{State, state, is_empty, need_of, push_all}
-use Rattle.lowering.specs.Entries.{elements_of, lowered_of, builder_at}
-use Rattle.lowering.proofs.Entries.{lowered_curve, quads-length, quads-sizes}
+use Rattle.conic_writer.specs.Entries.{elements_of, lowered_of, builder_at}
+use Rattle.conic_writer.proofs.Entries.{lowered_curve, quads-length, quads-sizes}
 use Rattle.calls.specs.Calls.{opening}
 use Rattle.calls.proofs.Admission.{conic_passed_on}
 use Rattle.calls.proofs.Opened.{opened-refused, opened-admitted, opened-room, opened-counts, opened-done}

@@ -1,6 +1,6 @@
 use Rattle.calls.proofs.Opening.{opened-need}
-use Rattle.lowering.proofs.Entries.{lowered_line, lowered_curve}
-use Rattle.lowering.specs.Entries.{lowered_of}
+use Rattle.conic_writer.proofs.Entries.{lowered_line, lowered_curve}
+use Rattle.conic_writer.specs.Entries.{lowered_of}
 use Rattle.stream.specs.Stream.{is_empty}
 use Rattle.conic.proofs.Whole.{halve-few}
 use Rattle.conic.specs.Halving.{count_of}

@@ -1,6 +1,6 @@
 use Rattle.calls.proofs.Opened.{one-need}
 use Rattle.calls.specs.Calls.{entries_of}
-use Rattle.lowering.specs.Entries.{elements_of}
+use Rattle.conic_writer.specs.Entries.{elements_of}
 use Rattle.stream.specs.Stream.{sizes_of}
 use mathlib.Core.Path.{◌∙◌}
 use Rattle.calls.proofs.need.Goals as goal

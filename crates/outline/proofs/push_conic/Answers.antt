@@ -1,9 +1,9 @@
 use mathlib.Core.Path.{sym, ap, subst, ◌∙◌}
 use Rattle.conic.specs.declared.Lowered.{Lowered}
 use Rattle.stream.specs.Stream.{State, state, push_all, Fits}
-use Rattle.lowering.specs.Entries.{elements_of, lowered_of}
+use Rattle.conic_writer.specs.Entries.{elements_of, lowered_of}
 use Rattle.calls.specs.Calls.{entries_of}
-use Rattle.corners.specs.Calls.{conic_call}
+use Rattle.outline_corners.specs.Calls.{conic_call}
 use Rattle.outline.proofs.Pushed.{room-one, calls_one}
 use Rattle.outline.proofs.push_conic.Goals as goal
 

@@ -4,10 +4,10 @@ use Rattle.stream.specs.declared.Element.TheVariants.{Line}
 use Rattle.stream.specs.Stream.{State, state}
 use Rattle.calls.specs.declared.Call.TheVariants.{LineTo}
 use Rattle.calls.specs.Calls.{entries_of}
-use Rattle.corners.specs.declared.Corner.{Corner}
-use Rattle.corners.specs.Calls.{calls_forwards, calls_backwards, calls_of}
-use Rattle.contour.specs.Entries.{push_calls, RoomAlong}
-use Rattle.contour.proofs.Along.{room_first, room-rest, calls_join}
+use Rattle.outline_corners.specs.declared.Corner.{Corner}
+use Rattle.outline_corners.specs.Calls.{calls_forwards, calls_backwards, calls_of}
+use Rattle.outline_need.specs.Entries.{push_calls, RoomAlong}
+use Rattle.outline_need.proofs.Along.{room_first, room-rest, calls_join}
 use Rattle.outline.proofs.Pushed.{room-plain, calls_plain}
 use Rattle.outline.proofs.push_corner.Goals as goal
 

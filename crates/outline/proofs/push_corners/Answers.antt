@@ -1,9 +1,9 @@
 use mathlib.Core.Path.{sym, ap, ◌∙◌}
 use mathlib.Core.List.{[], ◌++◌, append-nil, flatten}
 use Rattle.stream.specs.Stream.{State, state}
-use Rattle.corners.specs.Calls.{calls_of}
-use Rattle.contour.specs.Entries.{push_calls}
-use Rattle.contour.proofs.Along.{room_first, room-rest, calls_join}
+use Rattle.outline_corners.specs.Calls.{calls_of}
+use Rattle.outline_need.specs.Entries.{push_calls}
+use Rattle.outline_need.proofs.Along.{room_first, room-rest, calls_join}
 use Rattle.outline.proofs.push_corners.Goals as goal
 
 pub push_corner-b1-requires : goal.push_corner-b1-requires

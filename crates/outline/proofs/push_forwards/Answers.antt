@@ -3,8 +3,8 @@ use mathlib.Core.List.{[], ◌∷◌, ◌++◌}
 use Rattle.stream.specs.declared.Element.TheVariants.{Cubic}
 use Rattle.stream.specs.Stream.{State, state}
 use Rattle.calls.specs.Calls.{entries_of}
-use Rattle.corners.specs.Calls.{conic_call, cubic_call}
-use Rattle.contour.proofs.Along.{room_first, room-rest, calls_join}
+use Rattle.outline_corners.specs.Calls.{conic_call, cubic_call}
+use Rattle.outline_need.proofs.Along.{room_first, room-rest, calls_join}
 use Rattle.outline.proofs.Pushed.{room-plain, calls_plain}
 use Rattle.outline.proofs.push_forwards.Goals as goal
 

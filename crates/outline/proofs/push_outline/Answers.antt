@@ -5,8 +5,8 @@ use Rattle.stream.specs.declared.Element.TheVariants as Element
 use Rattle.stream.specs.Stream.{State, state}
 use Rattle.calls.specs.declared.Call.TheVariants.{MoveTo, LineTo, Close}
 use Rattle.calls.specs.Calls.{entries_of}
-use Rattle.corners.specs.Calls.{call_lists, calls_in}
-use Rattle.contour.proofs.Along.{room_first, room-rest, calls_join}
+use Rattle.outline_corners.specs.Calls.{call_lists, calls_in}
+use Rattle.outline_need.proofs.Along.{room_first, room-rest, calls_join}
 use Rattle.outline.proofs.Pushed.{room-plain, calls_plain}
 use Rattle.outline.proofs.push_outline.Goals as goal
 

@@ -2,13 +2,13 @@
 use Rattle.std.proofs.Common.{List, ℕ, ◌++◌, refl, sym, ap, ◌∙◌, arith}
 use Rattle.panel_file.specs.File.{records}
 use Rattle.panel_file.proofs.Opened.{records_few}
-use Rattle.report_line.specs.declared.Line.TheVariants.{End}
-use Rattle.report_line.specs.Line.{line_of}
-use Rattle.report_line.specs.Text.{text_of}
-use Rattle.report_line.specs.Records.{none_before}
+use Rattle.report_lines.specs.declared.Line.TheVariants.{End}
+use Rattle.report_lines.specs.Line.{line_of}
+use Rattle.report_lines.specs.Text.{text_of}
+use Rattle.report_lines.specs.Records.{none_before}
 use Rattle.report.specs.Report.{lines_of}
 use Rattle.report.proofs.Placing.{all_told}
-use Rattle.report_line.proofs.Writing.{over_all}
+use Rattle.report_lines.proofs.Writing.{over_all}
 use Rattle.report.proofs.put_lines.Goals as goal
 
 pub put_line-requires : goal.put_line-requires

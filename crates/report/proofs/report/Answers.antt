@@ -3,12 +3,12 @@ use Rattle.std.proofs.Common.{◌≡◌, List, ap, sym, ◌∙◌}
 use Rattle.panel_file.specs.declared.Record.{Record}
 use Rattle.panel_file.specs.Panel.{Answer}
 use Rattle.panel_file.specs.File.{records, opened_of}
-use Rattle.report_line.specs.declared.Line.TheVariants.{Broken}
-use Rattle.report_line.specs.Line.{line_of}
-use Rattle.report_line.specs.Text.{text_of}
+use Rattle.report_lines.specs.declared.Line.TheVariants.{Broken}
+use Rattle.report_lines.specs.Line.{line_of}
+use Rattle.report_lines.specs.Text.{text_of}
 use Rattle.report.specs.Report.{lines_of, reported, report_of}
 use Rattle.report.proofs.Placing.{all_placed}
-use Rattle.report_line.proofs.Writing.{one_line, all_over}
+use Rattle.report_lines.proofs.Writing.{one_line, all_over}
 use Rattle.report.proofs.report.Goals as goal
 
 pub put_lines-requires : goal.put_lines-requires

@@ -1,3 +1,0 @@
-pub mod Conics
-pub mod Circle
-pub mod Placement

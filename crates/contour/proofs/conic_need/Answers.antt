@@ -1,5 +1,0 @@
-use Rattle.contour.proofs.Passing.{passes-conic}
-use Rattle.contour.proofs.conic_need.Goals as goal
-
-pub returns : goal.returns
-returns c = let a = c.args in passes-conic a.pen a.arc.ctrl a.arc.to a.arc.weight _ c.need.ensures

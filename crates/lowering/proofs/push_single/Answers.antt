@@ -1,4 +1,0 @@
-use Rattle.lowering.proofs.push_single.Goals as goal
-
-pub returns : goal.returns
-returns c = rw c.after_quads.ensures (c.push_piece.ensures c.args.b.start c.args.b.pen)

@@ -1,0 +1,4 @@
+pub mod Conics
+pub mod Circle
+pub mod Placement
+pub mod Octants

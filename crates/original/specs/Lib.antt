@@ -1,2 +1,0 @@
-pub mod PathBuilder
-pub mod Demand2

@@ -1,0 +1,42 @@
+// A buffer of the program, and how much of it is lent.
+use items::BadLine;
+use operands::Element;
+
+#[derive(Drop)]
+pub struct Buffer<T, const N: usize> {
+    all: [T; N],
+    held: usize,
+}
+
+impl<T: Copy, const N: usize> Buffer<T, N> {
+    /// So much of it is lent, with a zero everywhere.
+    pub fn new(zero: T, held: usize) -> Buffer<T, N> {
+        Buffer {
+            all: [zero; N],
+            held,
+        }
+    }
+
+    pub fn has_room(&self, n: usize) -> bool {
+        n <= N
+    }
+
+    pub fn lent(&self) -> Option<&[T]> {
+        self.all.get(..self.held)
+    }
+
+    pub fn lent_mut(&mut self) -> Option<&mut [T]> {
+        let held = self.held;
+        let array = &mut self.all;
+        let all = &mut array[..];
+        all.get_mut(..held)
+    }
+}
+
+impl<T: Element, const N: usize> Buffer<T, N> {
+    /// The words of a line behind what is held.
+    pub fn grow(&mut self, line: &[u8]) -> Result<(), BadLine> {
+        self.held = operands::push(line, &mut self.all, self.held).ok_or(BadLine)?;
+        Ok(())
+    }
+}

@@ -1,7 +1,0 @@
--- `report_line::word` meets its contract. Assumes nothing.
-use native.Mathlib.Omega.{arith}
-use Rattle.report_line.proofs.Adding.{put-added}
-use Rattle.report_line.proofs.word.Goals as goal
-
-pub returns : goal.returns
-returns c = put-added _ _ _ _ _ (omega (arith, c.requires, c.before.before.before.well_formed)) c.put.ensures

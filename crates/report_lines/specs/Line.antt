@@ -1,0 +1,69 @@
+-- The lines of the reports on a panel file, as the lists of their bytes. Definitions only.
+use Rattle.std.specs.Prelude.{ℕ, ◌+◌, ◌≡◌, List, [], ◌∷◌, ◌++◌, length, take, codes}
+use Rattle.text.specs.Written.{decimal_text}
+use Rattle.report_lines.specs.declared.Line.{Line}
+use Rattle.report_lines.specs.declared.Line.TheVariants.{Shape, Refused, Touch, Nowhere, End, Consistent, Apart, Broken}
+
+-- `shape `
+abbrev pub shape_text : List ℕ
+shape_text = codes "shape "
+
+-- `touch `
+abbrev touch_text : List ℕ
+touch_text = codes "touch "
+
+-- `none`
+abbrev none_text : List ℕ
+none_text = codes "none"
+
+-- `end`
+abbrev end_text : List ℕ
+end_text = codes "end"
+
+-- `refused `
+abbrev refused_text : List ℕ
+refused_text = codes "refused "
+
+-- ` refused `
+abbrev refused_between : List ℕ
+refused_between = codes " refused "
+
+-- ` ok`
+abbrev ok_text : List ℕ
+ok_text = codes " ok"
+
+-- ` parts company`
+abbrev apart_text : List ℕ
+apart_text = codes " parts company"
+
+-- ` at `
+abbrev at_text : List ℕ
+at_text = codes " at "
+
+-- a blank
+abbrev blank : List ℕ
+blank = 32 ∷ []
+
+-- the end of a line
+abbrev pub newline : List ℕ
+newline = 10 ∷ []
+
+-- a number in decimal digits, without zeros in front, and a text
+unfoldable pub numbered : ℕ → List ℕ → List ℕ
+numbered n text = decimal_text n ++ text
+
+-- `shape I V P`, `shape I refused N`, `touch I`, `touch none`, `end`, `shape I ok`, `shape I parts company`, `refused N at O`
+unfoldable pub line_of : Line → List ℕ
+line_of (Shape index verbs points) = shape_text ++ numbered index blank ++ numbered verbs blank ++ numbered points newline
+line_of (Refused index cause) = shape_text ++ numbered index refused_between ++ numbered cause newline
+line_of (Touch index) = touch_text ++ numbered index newline
+line_of Nowhere = touch_text ++ none_text ++ newline
+line_of End = end_text ++ newline
+line_of (Consistent index) = shape_text ++ numbered index (ok_text ++ newline)
+line_of (Apart index) = shape_text ++ numbered index (apart_text ++ newline)
+line_of (Broken cause offset) = refused_text ++ numbered cause at_text ++ numbered offset newline
+
+-- the text behind the first `at` of l, in the first r of l'
+pub record Added (l : List ℕ) (at : ℕ) (text : List ℕ) (r : ℕ) (l' : List ℕ) : Type 0 where
+  pub past : r ≡ at + length text
+  pub held : take r l' ≡ take at l ++ text

@@ -1,0 +1,2 @@
+pub mod PathBuilder
+pub mod SameAsRust
