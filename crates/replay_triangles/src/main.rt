@@ -32,11 +32,11 @@ impl Path<'_> {
         match a {
             Ok(b) => {
                 self.builder = b;
-                input::write_counts(rt, b)
+                lines::write_counts(rt, b)
             }
             Err(e) => {
                 self.builder = e.builder();
-                input::write_number(rt, e.number())
+                lines::write_number(rt, e.number())
             }
         }
     }
@@ -60,7 +60,7 @@ impl Path<'_> {
         self.builder = d.builder;
         for a in [d.moved, d.second, d.third, d.closed] {
             if let Err(e) = a {
-                input::write_number(rt, e.number())?;
+                lines::write_number(rt, e.number())?;
             }
         }
         Ok(())
