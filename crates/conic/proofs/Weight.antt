@@ -10,8 +10,9 @@ use lib.Dec.{T, ltb, eqb, lt→ltb, eqb→eq, eqb_refl}
 use lib.Ieee.{Float, nan, inf, fin, up, down, neg, lt, eq, le, of_bits}
 use lib.Ieee.Bits.{is_true}
 use lib.Ieee.Scale.{finite}
+use Rattle.ieee.specs.Binary32.{zero as float_zero}
 use Rattle.ieee.specs.Basic.{abs_of}
-use Rattle.conic.specs.Conic.{zero as float_zero, thousandth}
+use Rattle.conic.specs.Conic.{thousandth}
 
 -- -a is at most b
 minus-le : (a b : ℕ) → (ltb 0 (a + b) || (eqb a b && (false || eqb a 0))) ≡ true

@@ -4,27 +4,16 @@ use Rattle.std.specs.Prelude.{Bool, true, false, not, ◌||◌, Float, if◌then
 use Rattle.std.specs.Float.{binary32}
 use Rattle.std.specs.Float.Ieee.{of_bits, add, sub, mul, div, lt, le}
 use Rattle.std.specs.Float.Ieee.Scale.{finite}
+use Rattle.ieee.specs.Binary32.{one, zero, two, half, quarter}
 use Rattle.ieee.specs.Basic.{abs_of}
 use Rattle.ieee.specs.Sqrt.{sqrt_of}
 use Rattle.geometry.specs.declared.Point.{Point}
-use Rattle.geometry.specs.Point.{one, add_of, sub_of, scale_of, shrink_of, length_squared_of, length_of, finite_point}
+use Rattle.geometry.specs.Point.{add_of, sub_of, scale_of, shrink_of, length_squared_of, length_of, finite_point}
 use Rattle.conic.specs.declared.Conic.{Conic}
 use Rattle.conic.specs.declared.Lowered.{Lowered}
 use Rattle.conic.specs.declared.Lowered.TheVariants.{Line, Curve}
 
--- 0.0, 2.0, 0.5, 0.25 and 1e-3
-abbrev pub zero : Float
-zero = of_bits binary32 0
-
-abbrev two : Float
-two = of_bits binary32 0x4000_0000
-
-abbrev half : Float
-half = of_bits binary32 0x3f00_0000
-
-abbrev quarter : Float
-quarter = of_bits binary32 0x3e80_0000
-
+-- 1e-3
 abbrev pub thousandth : Float
 thousandth = of_bits binary32 0x3a83_126f
 

@@ -3,7 +3,7 @@ use mathlib.Core.Path.{◌≡◌, refl, sym}
 use mathlib.Core.Bool.{Bool, true, false, cond, ◌||◌, true≢false}
 use lib.Ieee.{lt, le}
 use Rattle.geometry.specs.declared.Point.{Point}
-use Rattle.octant.specs.Binary32.{zero}
+use Rattle.ieee.specs.Binary32.{zero}
 use Rattle.octant.specs.declared.Octant.{Octant}
 use Rattle.containment.specs.Contains.{octant_contains_of}
 use Rattle.containment.specs.Parts.{in_superellipse, asks_powers}

@@ -13,7 +13,7 @@ use Rattle.ieee.proofs.Tests.{both}
 use lib.ListN.{get_or}
 use Rattle.geometry.specs.declared.Point.{Point}
 use Rattle.geometry.specs.Point.{sub_of, div_of, abs_point, distance_squared_of}
-use Rattle.octant.specs.Binary32.{zero as zero32}
+use Rattle.ieee.specs.Binary32.{zero as zero32}
 use Rattle.octant.specs.Octant.{point}
 use Rattle.octant.specs.declared.Octant.{Octant}
 use Rattle.quadrant.specs.declared.Quadrant.{Quadrant}

@@ -4,7 +4,7 @@ use mathlib.Core.Bool.{true, false}
 use lib.Ieee.{Float, binary32, of_bits, add, sub, mul, div, neg, lt, le, eq, ne, round}
 use Rattle.ieee.specs.Basic.{abs_of, min_of}
 use Rattle.geometry.specs.Point.{add_of, sub_of, div_of, shrink_of, abs_point}
-use Rattle.octant.specs.Binary32.{zero}
+use Rattle.ieee.specs.Binary32.{zero}
 use Rattle.octant.specs.Octant.{point, compute_octant_of}
 use Rattle.quadrant.specs.Quadrant.{forward_scale_of, or_sign_of, compute_quadrant_of, both_zero, split_of}
 use Rattle.shape.specs.declared.Bounds.{Bounds}

@@ -5,7 +5,7 @@ use lib.Ieee.{Float, lt}
 use Rattle.ieee.specs.Basic.{abs_of}
 use Rattle.geometry.specs.declared.Point.{Point}
 use Rattle.geometry.specs.Point.{sub_of, div_of, abs_point}
-use Rattle.octant.specs.Binary32.{zero}
+use Rattle.ieee.specs.Binary32.{zero}
 use Rattle.octant.specs.Octant.{point}
 use Rattle.quadrant.specs.declared.Quadrant.{Quadrant}
 use Rattle.containment.specs.Contains.{norm_contains, corner_contains_of}

@@ -3,7 +3,7 @@ use mathlib.Core.Path.{◌≡◌}
 use mathlib.Core.Bool.{Bool, true, ◌||◌, ◌&&◌}
 use lib.Ieee.{Float, lt, eq}
 use Rattle.geometry.specs.declared.Point.{Point}
-use Rattle.octant.specs.Binary32.{◌⊕◌, ◌⊖◌, zero}
+use Rattle.ieee.specs.Binary32.{◌⊕◌, ◌⊖◌, zero}
 use Rattle.quadrant.specs.declared.Quadrant.{Quadrant}
 use Rattle.quadrant.specs.Quadrant.{square_corner}
 use Rattle.containment.specs.Contains.{within, square_contains, norm_contains}

@@ -15,7 +15,7 @@ use Rattle.lanes.proofs.Places.{four_lanes}
 use Rattle.geometry.specs.declared.Point.{Point}
 use Rattle.geometry.specs.Point.{sub_of, distance_squared_of, length_squared_of}
 use Rattle.octant.specs.Octant.{point}
-use Rattle.octant.specs.Binary32.{zero}
+use Rattle.ieee.specs.Binary32.{zero}
 use Rattle.containment.specs.Arcs.{squared_distances, beyond_circle, beyond_arc}
 
 -- ---- two distances at once, as the code works them out

@@ -4,7 +4,7 @@ use Rattle.std.specs.Float.{binary32, nan}
 use Rattle.std.specs.Float.Ieee.{add, sub, mul, lt, le}
 use Rattle.geometry.specs.declared.Point.{Point}
 use Rattle.geometry.specs.Point.{sub_of, div_of, abs_point, distance_squared_of}
-use Rattle.octant.specs.Binary32.{zero}
+use Rattle.ieee.specs.Binary32.{zero}
 use Rattle.octant.specs.Octant.{point}
 use Rattle.quadrant.specs.declared.Quadrant.{Quadrant}
 use Rattle.shape.specs.declared.RoundSuperellipse.{RoundSuperellipse}

@@ -2,9 +2,9 @@
 use Rattle.std.specs.Prelude.{Bool, true, false, ◌&&◌, ◌||◌, Float, if◌then◌else◌}
 use Rattle.std.specs.Float.Ieee.{lt, le, eq}
 use Rattle.geometry.specs.declared.Point.{Point}
-use Rattle.geometry.specs.Point.{one, sub_of, div_of, shrink_of, abs_point, length_squared_of, distance_squared_of}
+use Rattle.geometry.specs.Point.{sub_of, div_of, shrink_of, abs_point, length_squared_of, distance_squared_of}
 use Rattle.exponential.specs.Power.{pow_of}
-use Rattle.octant.specs.Binary32.{◌⊕◌, ◌⊖◌, zero}
+use Rattle.ieee.specs.Binary32.{◌⊕◌, ◌⊖◌, zero, one}
 use Rattle.octant.specs.Octant.{point}
 use Rattle.octant.specs.declared.Octant.{Octant}
 use Rattle.quadrant.specs.declared.Quadrant.{Quadrant}

@@ -2,9 +2,9 @@
 use Rattle.std.specs.Prelude.{Bool, false, ◌||◌, Float, if◌then◌else◌}
 use Rattle.std.specs.Float.Ieee.{lt, le}
 use Rattle.geometry.specs.declared.Point.{Point}
-use Rattle.geometry.specs.Point.{one, shrink_of}
+use Rattle.geometry.specs.Point.{shrink_of}
 use Rattle.exponential.specs.Power.{pow_of}
-use Rattle.octant.specs.Binary32.{◌⊕◌, zero}
+use Rattle.ieee.specs.Binary32.{◌⊕◌, zero, one}
 use Rattle.octant.specs.declared.Octant.{Octant}
 
 unfoldable pub in_superellipse : Point → Float → Float → Bool

@@ -6,7 +6,7 @@
 ghost use Rattle.std.specs.Prelude.{◌≡◌, ◌&&◌, ◌||◌, if◌then◌else◌};
 ghost use Rattle.std.specs.Float.Ieee.{lt};
 ghost use Rattle.ieee.specs.Basic.{abs_of};
-ghost use Rattle.octant.specs.Binary32.{zero};
+ghost use Rattle.ieee.specs.Binary32.{zero};
 ghost use Rattle.octant.specs.Octant.{point};
 ghost use Rattle.containment.specs.Contains.{octant_contains_of, within, square_contains, round_contains, norm_contains, corner_contains_of, contains_of};
 ghost use Rattle.containment.specs.Parts.{in_superellipse, asks_powers};

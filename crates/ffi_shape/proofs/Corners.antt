@@ -7,7 +7,7 @@ use lib.ListN.{length, get_or}
 use lib.Ieee.{Float, nan, eq, ne}
 use Rattle.std.specs.Int.{from_bool}
 use Rattle.geometry.specs.declared.Point.{Point}
-use Rattle.octant.specs.Binary32 as binary32
+use Rattle.ieee.specs.Binary32 as binary32
 use Rattle.quadrant.specs.declared.Quadrant.{Quadrant}
 use Rattle.quadrant.specs.Quadrant.{square_corner}
 use Rattle.containment.specs.Contains.{round_contains, norm_contains, corner_contains_of, contains_of}

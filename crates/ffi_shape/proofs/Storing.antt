@@ -12,8 +12,7 @@ use lib.Ieee.{Float, binary32, of_int, of_bits}
 use Rattle.std.specs.Int.{from_bool}
 use Rattle.stream.specs.Stream.{put}
 use Rattle.stream.proofs.Put.{put_one, put-after}
-use Rattle.geometry.specs.Point.{one}
-use Rattle.octant.specs.Binary32.{zero}
+use Rattle.ieee.specs.Binary32.{zero, one}
 use Rattle.octant.specs.Octant.{point}
 use Rattle.octant.specs.declared.Octant.{Octant}
 use Rattle.quadrant.specs.declared.Quadrant.{Quadrant}

@@ -1,15 +1,12 @@
 -- Document 01's rules for points: arithmetic goes by component, each operation of binary32 rounded once, in the order written. Definitions only.
 use Rattle.std.specs.Prelude.{Bool, ◌&&◌, Float}
 use Rattle.std.specs.Float.{binary32}
-use Rattle.std.specs.Float.Ieee.{of_bits, add, sub, mul, div, neg}
+use Rattle.std.specs.Float.Ieee.{add, sub, mul, div, neg}
 use Rattle.std.specs.Float.Ieee.Scale.{finite}
+use Rattle.ieee.specs.Binary32.{one}
 use Rattle.ieee.specs.Basic.{abs_of}
 use Rattle.ieee.specs.Sqrt.{sqrt_of}
 use Rattle.geometry.specs.declared.Point.{Point}
-
--- 1.0
-abbrev pub one : Float
-one = of_bits binary32 0x3f80_0000
 
 -- one operation on both components
 abbrev each : (Float → Float) → Point → Point

@@ -1,3 +1,4 @@
+pub mod Binary32
 pub mod Basic
 pub mod Narrow
 pub mod Sqrt

@@ -4,8 +4,7 @@ use mathlib.Core.Bool.{true}
 use lib.Ieee.{binary32, of_bits, add, sub, mul, div, neg, lt, le, eq, round, of_int, to_unsigned}
 use Rattle.ieee.specs.Basic.{clamp_of}
 use Rattle.geometry.specs.declared.Point.{Point}
-use Rattle.geometry.specs.Point.{one}
-use Rattle.octant.specs.Binary32.{zero, two}
+use Rattle.ieee.specs.Binary32.{zero, two, one}
 use Rattle.octant.specs.Degree.{corner_at, first_max_ratio, second_max_ratio, table_steps_of, n_and_xj_of}
 use Rattle.octant.specs.Octant.{close_enough, point, compute_octant_of}
 

@@ -3,8 +3,7 @@ use Rattle.std.specs.Prelude.{ℕ, ◌+◌, min, List, [], ◌∷◌, pos, get_o
 use Rattle.std.specs.Float.{nan, binary32}
 use Rattle.std.specs.Float.Ieee.{of_bits, of_int, to_unsigned, lt}
 use Rattle.ieee.specs.Basic.{clamp_of}
-use Rattle.geometry.specs.Point.{one}
-use Rattle.octant.specs.Binary32.{◌⊕◌, ◌⊖◌, ◌⊗◌, ◌⊘◌}
+use Rattle.ieee.specs.Binary32.{◌⊕◌, ◌⊖◌, ◌⊗◌, ◌⊘◌, one}
 use Rattle.octant.specs.declared.NAndXj.{NAndXj}
 
 -- a table's row, by its two patterns, and the entry at a row and a column

@@ -4,10 +4,10 @@ use Rattle.std.specs.Float.{binary32}
 use Rattle.std.specs.Float.Ieee.{of_bits, neg, le}
 use Rattle.ieee.specs.Sqrt.{sqrt_of}
 use Rattle.geometry.specs.declared.Point.{Point}
-use Rattle.geometry.specs.Point.{one, add_of, sub_of, shrink_of, length_of, normalize_of}
+use Rattle.geometry.specs.Point.{add_of, sub_of, shrink_of, length_of, normalize_of}
 use Rattle.exponential.specs.Power.{pow_of}
 use Rattle.trigonometry.specs.Arctangent.{atan2_of}
-use Rattle.octant.specs.Binary32.{◌⊖◌, ◌⊗◌, ◌⊘◌, zero, two}
+use Rattle.ieee.specs.Binary32.{◌⊖◌, ◌⊗◌, ◌⊘◌, zero, two, one}
 use Rattle.octant.specs.Degree.{n_and_xj_of}
 use Rattle.octant.specs.declared.Octant.{Octant}
 

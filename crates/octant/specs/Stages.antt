@@ -2,9 +2,9 @@
 -- Definitions only.
 use Rattle.std.specs.Prelude.{Float}
 use Rattle.geometry.specs.declared.Point.{Point}
-use Rattle.geometry.specs.Point.{one, sub_of}
+use Rattle.geometry.specs.Point.{sub_of}
 use Rattle.exponential.specs.Power.{pow_of}
-use Rattle.octant.specs.Binary32.{◌⊖◌, ◌⊗◌, ◌⊘◌, zero, two}
+use Rattle.ieee.specs.Binary32.{◌⊖◌, ◌⊗◌, ◌⊘◌, zero, two, one}
 use Rattle.octant.specs.Degree.{n_and_xj_of}
 use Rattle.octant.specs.Octant.{point, gap_factor, sqrt2, circle_center_through_of, angle_between_of}
 use Rattle.octant.specs.declared.Fitted.{Fitted}

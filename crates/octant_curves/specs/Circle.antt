@@ -5,7 +5,7 @@ use Rattle.std.specs.Float.Ieee.{of_bits, neg}
 use Rattle.geometry.specs.declared.Point.{Point}
 use Rattle.geometry.specs.Point.{add_of, sub_of, scale_of, length_of, normalize_of}
 use Rattle.trigonometry.specs.Sine.{sin_cos_of, tan_of}
-use Rattle.octant.specs.Binary32.{◌⊕◌, ◌⊖◌, ◌⊗◌, ◌⊘◌}
+use Rattle.ieee.specs.Binary32.{◌⊕◌, ◌⊖◌, ◌⊗◌, ◌⊘◌}
 use Rattle.octant.specs.Octant.{point}
 use Rattle.octant.specs.declared.Octant.{Octant}
 

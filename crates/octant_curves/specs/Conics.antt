@@ -5,9 +5,9 @@ use Rattle.std.specs.Float.Ieee.{of_bits, of_int, neg, lt, le}
 use Rattle.ieee.specs.Basic.{abs_of, clamp_of}
 use Rattle.ieee.specs.Sqrt.{sqrt_of}
 use Rattle.geometry.specs.declared.Point.{Point}
-use Rattle.geometry.specs.Point.{one, add_of, shrink_of}
+use Rattle.geometry.specs.Point.{add_of, shrink_of}
 use Rattle.exponential.specs.Power.{pow_of}
-use Rattle.octant.specs.Binary32.{◌⊕◌, ◌⊖◌, ◌⊗◌, ◌⊘◌, zero, two}
+use Rattle.ieee.specs.Binary32.{◌⊕◌, ◌⊖◌, ◌⊗◌, ◌⊘◌, zero, two, one}
 use Rattle.octant.specs.Degree.{row, entry, left_row_of}
 use Rattle.octant.specs.Octant.{point, close_enough}
 use Rattle.octant.specs.declared.Octant.{Octant}

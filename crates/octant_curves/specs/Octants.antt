@@ -2,9 +2,8 @@
 use Rattle.std.specs.Prelude.{Float}
 use Rattle.geometry.specs.declared.Point.{Point}
 use Rattle.std.specs.Float.Ieee.{neg}
-use Rattle.geometry.specs.Point.{one}
 use Rattle.exponential.specs.Power.{pow_of}
-use Rattle.octant.specs.Binary32.{◌⊖◌, ◌⊗◌, ◌⊘◌}
+use Rattle.ieee.specs.Binary32.{◌⊖◌, ◌⊗◌, ◌⊘◌, one}
 use Rattle.octant.specs.Octant.{point}
 use Rattle.octant.specs.declared.Octant.{Octant}
 use Rattle.octant_curves.specs.Conics.{superellipse_conic_factors_of, meeting_of, joined_of, superellipse_conics_of}

@@ -3,8 +3,8 @@ use Rattle.std.specs.Prelude.{List, [], ◌∷◌, ◌++◌, Bool, true, false, 
 use Rattle.std.specs.Float.{nan}
 use Rattle.std.specs.Float.Ieee.{neg}
 use Rattle.geometry.specs.declared.Point.{Point}
-use Rattle.geometry.specs.Point.{one, add_of, mul_of}
-use Rattle.octant.specs.Binary32.{◌⊘◌, zero}
+use Rattle.geometry.specs.Point.{add_of, mul_of}
+use Rattle.ieee.specs.Binary32.{◌⊘◌, zero, one}
 use Rattle.octant.specs.Octant.{point}
 use Rattle.octant.specs.declared.Octant.{Octant}
 use Rattle.quadrant.specs.declared.Quadrant.{Quadrant}

@@ -4,7 +4,8 @@
 #![tactic(auto)]
 
 ghost use Rattle.std.specs.Prelude.{◌≡◌, true, false, ◌||◌};
-ghost use Rattle.geometry.specs.Point.{one, mul_of};
+ghost use Rattle.ieee.specs.Binary32.{one};
+ghost use Rattle.geometry.specs.Point.{mul_of};
 ghost use Rattle.octant.specs.Octant.{point};
 ghost use Rattle.quadrant.specs.Quadrant.{square_corner};
 ghost use Rattle.outline_corners.specs.Corners.{curves_of, placement_of, placed_conic, placed_cubic, forwards_calls, backwards_calls, next_of, square_calls, round_calls, solved_calls, corner_calls, equal_corners, unequal_corners, corners_of, start_point};

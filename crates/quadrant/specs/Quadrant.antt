@@ -3,8 +3,8 @@ use Rattle.std.specs.Prelude.{Bool, ◌&&◌, ◌||◌, Float, if◌then◌else�
 use Rattle.std.specs.Float.Ieee.{neg, eq, ne, lt}
 use Rattle.ieee.specs.Basic.{abs_of, min_of}
 use Rattle.geometry.specs.declared.Point.{Point}
-use Rattle.geometry.specs.Point.{one, sub_of, div_of, shrink_of, abs_point}
-use Rattle.octant.specs.Binary32.{◌⊕◌, ◌⊖◌, ◌⊗◌, ◌⊘◌, zero, two}
+use Rattle.geometry.specs.Point.{sub_of, div_of, shrink_of, abs_point}
+use Rattle.ieee.specs.Binary32.{◌⊕◌, ◌⊖◌, ◌⊗◌, ◌⊘◌, zero, two, one}
 use Rattle.octant.specs.Octant.{point, compute_octant_of}
 use Rattle.octant.specs.declared.Octant.{Octant}
 use Rattle.octant.specs.declared.Unsolved.{Unsolved}

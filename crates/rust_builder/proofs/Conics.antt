@@ -7,11 +7,12 @@ use native.Mathlib.Omega.{arith}
 use lib.Dec.{leb}
 use borrow.Author.Tests.{le-leb, lt-leb}
 use lib.Ieee.{binary32, sub, mul, lt, le}
+use Rattle.ieee.specs.Binary32.{one, zero as float_zero}
 use Rattle.ieee.specs.Basic.{abs_of}
 use Rattle.geometry.specs.declared.Point.{Point}
-use Rattle.geometry.specs.Point.{one, sub_of, length_of}
+use Rattle.geometry.specs.Point.{sub_of, length_of}
 use Rattle.conic.specs.declared.Conic.{Conic}
-use Rattle.conic.specs.Conic.{zero as float_zero, thousandth, conic_mid, quad_mid, flat_of, split_of}
+use Rattle.conic.specs.Conic.{thousandth, conic_mid, quad_mid, flat_of, split_of}
 use Rattle.conic.specs.Halving.{Piece, piece_of, halve}
 use Rattle.stream.specs.declared.Element.{Element}
 use Rattle.stream.specs.Stream.{start_after, pen_after}

@@ -2,11 +2,12 @@
 use Rattle.std.specs.Prelude.{List, [], ◌∷◌, ◌++◌, Bool, true, false, ◌&&◌, ◌||◌, ℕ, zero, suc, nat_le, Float, if◌then◌else◌}
 use Rattle.std.specs.Float.{binary32}
 use Rattle.std.specs.Float.Ieee.{sub, mul, lt, le}
+use Rattle.ieee.specs.Binary32.{one, zero as float_zero}
 use Rattle.ieee.specs.Basic.{abs_of}
 use Rattle.geometry.specs.declared.Point.{Point}
-use Rattle.geometry.specs.Point.{one, sub_of, length_of}
+use Rattle.geometry.specs.Point.{sub_of, length_of}
 use Rattle.conic.specs.declared.Conic.{Conic}
-use Rattle.conic.specs.Conic.{zero as float_zero, thousandth, is_line, conic_mid, quad_mid, split_of}
+use Rattle.conic.specs.Conic.{thousandth, is_line, conic_mid, quad_mid, split_of}
 use Rattle.stream.specs.Stream.{origin}
 use Rattle.calls.specs.declared.Call.{Call}
 use Rattle.calls.specs.declared.Call.TheVariants as call

@@ -6,7 +6,7 @@ use Prim.Native.Nat.{ℕ}
 use native.Mathlib.Omega.{arith}
 use lib.Ieee.{nan, inf, binary32, of_bits, neg, lt}
 use Rattle.ieee.specs.Basic.{abs_of}
-use Rattle.octant.specs.Binary32.{zero}
+use Rattle.ieee.specs.Binary32.{zero}
 use Rattle.shape.specs.Shape.{shape_of}
 use Rattle.shape.specs.Refusal.{limit, beyond_limit, bounds_beyond, radii_beyond, radii_below, inverted, Outcome, made, refused, new_of}
 use Rattle.shape.specs.declared.Bounds.{Bounds}

@@ -2,8 +2,8 @@
 use Rattle.std.specs.Prelude.{Bool, true, false, ◌&&◌, List, [], ◌∷◌, Float, if◌then◌else◌}
 use Rattle.std.specs.Float.Ieee.{neg, eq, ne}
 use Rattle.geometry.specs.declared.Point.{Point}
-use Rattle.geometry.specs.Point.{one, add_of, shrink_of}
-use Rattle.octant.specs.Binary32.{zero, two}
+use Rattle.geometry.specs.Point.{add_of, shrink_of}
+use Rattle.ieee.specs.Binary32.{zero, two, one}
 use Rattle.octant.specs.Octant.{point}
 use Rattle.quadrant.specs.Quadrant.{compute_quadrant_of, split_of}
 use Rattle.quadrant.specs.declared.Quadrant.{Quadrant}

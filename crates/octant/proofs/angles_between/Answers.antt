@@ -4,7 +4,7 @@ use lib.Ieee.{Float}
 use Rattle.geometry.specs.declared.Point.{Point}
 use Rattle.trigonometry.specs.Arctangent.{atan2_of}
 use Rattle.lanes.proofs.Places.{zip2-of_maps}
-use Rattle.octant.specs.Binary32.{◌⊖◌}
+use Rattle.ieee.specs.Binary32.{◌⊖◌}
 use Rattle.octant.specs.Octant.{angle_between_of}
 use Rattle.octant.proofs.angles_between.Goals as goal
 

@@ -1,10 +1,9 @@
 use Rattle.std.proofs.Common.{◌≡◌, rules, map, refl, ◌∙◌}
 use Rattle.std.proofs.lemmas.Simd.{zip2_of_maps}
 use lib.Ieee.{Float}
-use Rattle.geometry.specs.Point.{one}
 use Rattle.exponential.specs.Power.{pow_of}
 use Rattle.lanes.proofs.Places.{map-of_map, zip2-of_map_left}
-use Rattle.octant.specs.Binary32.{◌⊖◌, ◌⊗◌, ◌⊘◌}
+use Rattle.ieee.specs.Binary32.{◌⊖◌, ◌⊗◌, ◌⊘◌, one}
 use Rattle.octant.specs.Stages.{fitted_of, first_power_of, height_of, slope_of}
 use Rattle.octant.specs.declared.Fitted.{Fitted}
 use Rattle.octant.specs.declared.Meeting.{Meeting}

@@ -2,8 +2,8 @@ use Rattle.octant_curves.specs.Circle.{arc_points_of}
 use mathlib.Core.Path.{◌≡◌, ap}
 use lib.Ieee.{Float, neg}
 use Rattle.geometry.specs.declared.Point.{Point}
-use Rattle.geometry.specs.Point.{one, scale_of, length_of, normalize_of}
-use Rattle.octant.specs.Binary32.{◌⊘◌}
+use Rattle.geometry.specs.Point.{scale_of, length_of, normalize_of}
+use Rattle.ieee.specs.Binary32.{◌⊘◌, one}
 use Rattle.octant.specs.Octant.{point}
 use Rattle.octant.proofs.Turned.{turned_back}
 use Rattle.octant_curves.proofs.arc_points.Goals as goal

@@ -4,7 +4,7 @@ use lib.Ieee.{Float, neg}
 use Rattle.trigonometry.specs.Sine.{sin_cos_of, tan_of}
 use Rattle.trigonometry.specs.declared.SinCos.{SinCos}
 use Rattle.lanes.proofs.Places.{map-of_map, zip2-of_map_right}
-use Rattle.octant.specs.Binary32.{◌⊘◌}
+use Rattle.ieee.specs.Binary32.{◌⊘◌}
 use Rattle.octant.specs.declared.Octant.{Octant}
 use Rattle.octant_curves.specs.Circle.{four, arc_points_of, circular_arc_points_of}
 use Rattle.octant_curves.specs.declared.Turn.{Turn}

@@ -1,5 +1,5 @@
 use Rattle.std.proofs.Common.{◌≡◌, rules, map, refl}
-use Rattle.octant.specs.Binary32.{◌⊘◌}
+use Rattle.ieee.specs.Binary32.{◌⊘◌}
 use Rattle.octant.specs.declared.Octant.{Octant}
 use Rattle.octant_curves.specs.Conics.{superellipse_conics_of}
 use Rattle.lanes.proofs.Places.{zip2-of_map_right}

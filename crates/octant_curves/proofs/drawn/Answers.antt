@@ -1,11 +1,10 @@
 use Rattle.std.proofs.Common.{◌≡◌, rules, map, ap, refl, ◌∙◌}
 use Rattle.std.proofs.lemmas.Simd.{zip2_of_maps}
 use lib.Ieee.{Float, neg}
-use Rattle.geometry.specs.Point.{one}
 use Rattle.geometry.specs.declared.Point.{Point}
 use Rattle.exponential.specs.Power.{pow_of}
 use Rattle.lanes.proofs.Places.{map-of_map, zip2-of_map_right}
-use Rattle.octant.specs.Binary32.{◌⊖◌, ◌⊘◌}
+use Rattle.ieee.specs.Binary32.{◌⊖◌, ◌⊘◌, one}
 use Rattle.octant_curves.specs.Conics.{joined_of}
 use Rattle.octant_curves.specs.declared.SuperellipseConics.{SuperellipseConics}
 use Rattle.octant_curves.specs.Octants.{ratio_of, met_of, height_of, drawn_of}
