@@ -14,26 +14,26 @@ pub mod machine {
 }
 
 pub mod written {
-    use oracle::ground;
+    use oracle::elementary;
 
     #[inline(never)]
     pub extern "C" fn pow(b: f32, y: f32) -> f32 {
-        ground::pow(b, y)
+        elementary::pow(b, y)
     }
 
     #[inline(never)]
     pub fn sin_cos(t: f32) -> (f32, f32) {
-        ground::sin_cos(t)
+        elementary::sin_cos(t)
     }
 
     #[inline(never)]
     pub extern "C" fn tan(t: f32) -> f32 {
-        ground::tan(t)
+        elementary::tan(t)
     }
 
     #[inline(never)]
     pub extern "C" fn atan2(y: f32, x: f32) -> f32 {
-        ground::atan2(y, x)
+        elementary::atan2(y, x)
     }
 }
 

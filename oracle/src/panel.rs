@@ -1,5 +1,5 @@
-//! Document 01's panel file and its program `fascia`, and the program `inspect`, over the original.
-//! Stands in both variants.
+//! Panel files and what the programs `fascia` and `inspect` write of them, over the original. Stands in
+//! both variants.
 
 use super::path::{access, PathBuilder};
 use super::superellipse::access::{made_of, shape_floats};
@@ -154,7 +154,8 @@ pub fn inspection(file: &[u8]) -> Vec<String> {
 mod tests {
     use super::report;
 
-    /// Document 01's example: a square, then a touch that it takes and one that it does not.
+    /// The sample panel of the worked examples: a square, then a touch that it takes and one that it
+    /// does not.
     #[test]
     fn example() {
         let floats = [

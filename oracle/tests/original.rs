@@ -1,4 +1,4 @@
-//! Document 01's examples a to j, run on the original as it is built here.
+//! The worked examples, run on the original as it is built here.
 
 use oracle::vec2::Vec2;
 use oracle::written::path::{access as path, PathBuilder, Rect, Verb};

@@ -1,4 +1,4 @@
-//! The answers to a text of calls, streams and points: docs/REPLAY.md.
+//! What the program `replay_paths` answers to a text of calls, streams and points: docs/REPLAY.md.
 
 use oracle::vec2::Vec2;
 

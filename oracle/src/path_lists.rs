@@ -1,4 +1,4 @@
-//! Calls, streams and points for the program `replay`: the same text at every run.
+//! Calls, streams and points for the program `replay_paths`: the same text at every run.
 
 use oracle::random::Random;
 use oracle::vec2::Vec2;
@@ -180,7 +180,7 @@ fn fits(list: &mut List) {
 }
 
 fn examples(list: &mut List) {
-    list.heading("document 01's examples a to e");
+    list.heading("A list of building calls");
     for w in [1.0, 0.0, 3.0, f32::NAN] {
         list.list(8, 16, &[Call::Conic(p(1.0, 0.0), p(2.0, 0.0), w)]);
     }
@@ -486,7 +486,7 @@ fn empty(seed: u64) -> List {
 }
 
 /// The last line but one is a bad one.
-pub fn lists() -> Vec<String> {
+pub fn lines() -> Vec<String> {
     let mut list = empty(0x7ea1);
     examples(&mut list);
     fits(&mut list);
