@@ -33,7 +33,8 @@ pub fn clamp(x: f32, lo: f32, hi: f32) -> f32 {
     }
 }
 
-/// Horner's scheme of a row c_0 to c_m: begin with c_m; for k from m - 1 down to 0 multiply by z, add c_k.
+/// Horner's scheme of a row c_0 to c_m: begin with c_m; for k from m - 1 down to 0 multiply by z
+/// and add c_k.
 #[inline(always)]
 fn horner<const N: usize>(c: &[f64; N], z: f64) -> f64 {
     let mut sum = c[N - 1];

@@ -25,8 +25,8 @@ pub enum Function {
 
 use Function::*;
 
-/// The float functions under the names that the list uses. The machine's own instructions answer for
-/// `widen`, `narrow` and `sqrt`: IEEE 754 decides those.
+/// The float functions under the names that the list uses. The machine's own instructions answer
+/// for `widen`, `narrow` and `sqrt`: IEEE 754 decides those.
 pub const FUNCTIONS: [(&str, Function); 26] = [
     ("widen", Widening(|x| x as f64)),
     ("narrow", Narrowing(|x| x as f32)),

@@ -1,5 +1,5 @@
-//! The original, built from its own folder by build.rs, in two variants: `written` on the
-//! written-out elementary functions, which decides every answer, and `native` on the platform's, for
+//! The original, built from its own folder by build.rs, in two variants: `written` on the elementary
+//! functions as written out here, which decides every answer, and `native` on the platform's, for
 //! comparison of speed alone.
 
 pub mod elementary;

@@ -1,9 +1,11 @@
-//! usage: oracle list KIND           what the program `replay_KIND` reads: KIND is floats, shapes, paths or panels
-//!        oracle answer KIND         what it must write to such a text on standard input
-//!        oracle fascia              the report on the panel file on standard input
-//!        oracle fascia-native       the same on the platform's functions, for comparison of speed alone
-//!        oracle inspect             of each shape of the panel file on standard input, whether it is consistent
-//!        oracle largest-panel       a panel file of 630 shapes and 2,730 touches
+//! Answers for the original. KIND is floats, shapes, paths or panels.
+//!
+//! usage: oracle list KIND        what the program `replay_KIND` reads
+//!        oracle answer KIND      what it must write, if such a text comes on standard input
+//!        oracle fascia           the report on the panel file on standard input
+//!        oracle fascia-native    the same on the platform's functions, for comparison of speed
+//!        oracle inspect          of each shape of the panel file whether it is consistent
+//!        oracle largest-panel    a panel file of 630 shapes and 2,730 touches
 
 use std::io::{self, BufRead, Read, Write};
 
@@ -11,6 +13,7 @@ use oracle::{native, panel, panel_files, shapes, stream, words};
 
 mod float_answers;
 mod float_list;
+mod kept_lists;
 mod outline_lists;
 mod path_answers;
 mod path_lists;
@@ -69,8 +72,9 @@ fn main() -> io::Result<()> {
         ["inspect"] => print_lines(&mut out, panel::inspection(&input()?)),
         ["largest-panel"] => out.write_all(&panel_files::largest()),
         _ => {
-            eprintln!("usage: oracle list KIND | answer KIND | fascia | fascia-native | inspect | largest-panel");
-            eprintln!("KIND: floats | shapes | paths | panels");
+            eprintln!("usage: oracle list KIND | answer KIND");
+            eprintln!("       oracle fascia | fascia-native | inspect | largest-panel");
+            eprintln!("KIND is floats, shapes, paths or panels");
             std::process::exit(2);
         }
     }?;

@@ -3,6 +3,7 @@
 use oracle::random::Random;
 use oracle::vec2::Vec2;
 
+use crate::kept_lists;
 use crate::outline_lists;
 use crate::shapes;
 use crate::stream::{point_words, Call, Stream};
@@ -498,6 +499,7 @@ pub fn lines() -> Vec<String> {
     spacing(&mut list);
     containment(&mut list);
     outline_lists::add_to(&mut list);
+    kept_lists::add_to(&mut list);
     list.heading("a bad line is the last");
     list.line("buffers 4097 0".to_string());
     list.line("contains".to_string());
