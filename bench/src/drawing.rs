@@ -1,6 +1,7 @@
-//! ns per call of what makes shapes, asks them and builds paths: the library, the original on document
-//! 01's float functions and the original on the platform's, on the same inputs, taken in turns in one
-//! run, many rounds each. Every function stands behind a call.
+//! ns per call of what makes shapes, asks them and builds paths: the library, the original on the
+//! written-out elementary functions and the original on the platform's, on the same inputs, taken in
+//! turns in one run, many rounds each. Every function stands behind a call. bench/README.md says what
+//! each row is.
 
 use std::hint::black_box;
 use std::time::Instant;

@@ -70,7 +70,7 @@ struct Drawn {
 }
 
 impl Drawn {
-    /// None where the shape is refused or parts company, or has no area.
+    /// None where the shape is refused, is not consistent or has no area.
     fn new(sizes: &Sizes, path: &mut Path) -> Option<Drawn> {
         let mut shape = [0.0; 89];
         let made = library::shape(sizes, &mut shape) == 0;
@@ -175,7 +175,7 @@ struct Worst {
 #[derive(Default)]
 struct Found {
     shapes: u64,
-    /// Further shapes that are refused, part company or have no area.
+    /// Further shapes that are refused, are not consistent or have no area.
     passed_over: u64,
     samples: u64,
     /// Samples from which a point halfway to the center is not contained, or one far out is.
