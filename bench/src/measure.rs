@@ -279,7 +279,7 @@ fn percent(x: f64) -> String {
     format!("{} %", figure(100.0 * x))
 }
 
-/// The classes of any shapes, and what a run may find them apart at most, by the longer side: a quarter more than docs/DIFFERENCES.md
+/// The classes of any shapes, and what a run may find them apart at most, by the longer side: a quarter more than docs/ACCURACY.md
 /// has; where there is no such figure the class has a 1.
 const CLASSES: [(&str, f64); 6] = [
     ("round corners", 0.0022),
@@ -332,7 +332,7 @@ fn part(r: &mut Random) -> f64 {
 }
 
 /// Kinds of buttons, and what a run may find them apart at most, in itself and by the longer side, near the origin and far from it: a
-/// quarter more than docs/DIFFERENCES.md has.
+/// quarter more than docs/ACCURACY.md has.
 const KINDS: [(&str, fn(&mut Random) -> Button, [[f64; 2]; 2]); 9] = [
     (
         "one radius",
