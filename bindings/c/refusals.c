@@ -235,6 +235,38 @@ static void segments(void)
     }
 }
 
+/* A reading that is refused, or at the end, stores no float, though the buffers go on at the cursor. */
+static void unread(void)
+{
+    reset();
+    for (int i = 0; i < 32; i++)
+        m.points[i] = (float)i;
+    memset(m.verbs, SHACKLETONGUE_QUAD, sizeof m.verbs);
+    m.counts[0] = 4;
+    m.counts[1] = 8;
+    UNCHANGED(1, READ(PATH(3, 4, 3, 32)));
+    UNCHANGED(1, READ(PATH(3, 4, 16, 15)));
+    m.counts[0] = 0;
+    UNCHANGED(1, READ(PATH(3, 4, 16, 32)));
+    m.counts[0] = 4;
+    m.cursor[0] = 3;
+    m.cursor[1] = 7;
+    UNCHANGED(6, READ(PATH(3, 4, 16, 32)));
+    m.cursor[1] = 6;
+    m.verbs[3] = 5;
+    UNCHANGED(6, READ(PATH(3, 4, 16, 32)));
+    m.verbs[3] = SHACKLETONGUE_QUAD;
+    m.cursor[0] = 4;
+    CHECK(READ(PATH(3, 4, 16, 32)) == 0);
+    CHECK(m.cursor[2] == SHACKLETONGUE_END);
+    KEPT_FROM(0, m.segment);
+    m.cursor[0] = 3;
+    CHECK(READ(PATH(3, 4, 16, 32)) == 0);
+    for (int i = 0; i < 4; i++)
+        CHECK(m.segment[i] == m.points[12 + i]);
+    KEPT_FROM(4, m.segment);
+}
+
 #define RECORD(file, len) shackletongue_record(file, len, m.place, 2, m.floats, 12)
 #define TOUCH(file, len) shackletongue_touch(file, len, 5, 5, m.place, 1)
 #define TOUCH_ALL(file, len) shackletongue_touch_all(file, len, m.results, SHACKLETONGUE_RESULTS_LEN, m.place, 1)
@@ -299,6 +331,7 @@ int main(void)
     keeping();
     reading();
     segments();
+    unread();
     panels();
     printf("refusals: %d checks\n", checks);
     return EXIT_SUCCESS;
