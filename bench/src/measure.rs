@@ -388,7 +388,7 @@ const KINDS: [(&str, fn(&mut Random) -> Button, [[f64; 2]; 2]); 9] = [
 ];
 
 /// The button with its least corner there, everything rounded to tenths in half of all cases.
-fn placed((sides, radii): Button, corner: P, tenths: bool) -> Sizes {
+fn sizes_at((sides, radii): Button, corner: P, tenths: bool) -> Sizes {
     let half = sides[0].min(sides[1]) / 2.0;
     let round = |x: f64| {
         if tenths {
@@ -417,7 +417,7 @@ fn buttons(make: fn(&mut Random) -> Button, far: bool, count: u64, seed: u64) ->
     while found.shapes < count {
         let corner = [0; 2].map(|_| random.within(low, high));
         let tenths = random.below(2) == 0;
-        let sizes = placed(make(&mut random), corner, tenths);
+        let sizes = sizes_at(make(&mut random), corner, tenths);
         match Drawn::new(&sizes, &mut path) {
             Some(drawn) => found.shape(&drawn, 4, &mut random),
             None => found.passed_over += 1,

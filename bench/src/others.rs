@@ -66,13 +66,13 @@ macro_rules! shapes {
             use oracle::vec2::Vec2;
             use oracle::$variant::panel;
             use oracle::$variant::path::{access, PathBuilder};
-            use oracle::$variant::superellipse::access::made_of;
+            use oracle::$variant::superellipse::access::from_sizes;
             use oracle::$variant::superellipse::RoundSuperellipse;
 
             /// min, max, and the radii top left, top right, bottom left, bottom right.
             #[inline(never)]
             pub fn new(s: &[f32; 12]) -> RoundSuperellipse {
-                made_of(s)
+                from_sizes(s)
             }
 
             /// The outline, into a builder that is cleared first.

@@ -69,7 +69,7 @@ fn main() -> io::Result<()> {
         ["answer", "panels"] => print_lines(&mut out, panel_files::reports(&input()?)),
         ["fascia"] => print_lines(&mut out, panel::report(&input()?)),
         ["fascia-native"] => print_lines(&mut out, native::panel::report(&input()?)),
-        ["inspect"] => print_lines(&mut out, panel::inspection(&input()?)),
+        ["inspect"] => print_lines(&mut out, panel::consistency_report(&input()?)),
         ["largest-panel"] => out.write_all(&panel_files::largest()),
         _ => {
             eprintln!("usage: oracle list KIND | answer KIND");

@@ -284,7 +284,7 @@ fn cuts(list: &mut List) {
 }
 
 /// Shapes at which a rule of the original changes, each with touches about it.
-fn drawn(list: &mut List) {
+fn shape_panels(list: &mut List) {
     list.heading("panels of the oracle's shapes, with touches about them");
     let mut random = Random(0xfa5c_1a00);
     let all = shapes();
@@ -325,7 +325,7 @@ pub fn lines() -> Vec<String> {
     lengths(&mut list);
     damage(&mut list);
     cuts(&mut list);
-    drawn(&mut list);
+    shape_panels(&mut list);
     list.0
 }
 

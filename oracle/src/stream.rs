@@ -5,7 +5,7 @@
 use crate::vec2::Vec2;
 use crate::written::path::access::{self, Conic};
 use crate::written::path::{PathBuilder, Verb};
-use crate::written::superellipse::{access::made_of, RoundSuperellipse};
+use crate::written::superellipse::{access::from_sizes, RoundSuperellipse};
 
 use crate::words::f32_word;
 
@@ -67,7 +67,7 @@ pub fn limits(f: &[f32; 12]) -> Result<(), Refusal> {
 
 /// The shape of min, max and the radii, or its refusal.
 pub fn shape(f: &[f32; 12]) -> Result<RoundSuperellipse, Refusal> {
-    limits(f).map(|()| made_of(f))
+    limits(f).map(|()| from_sizes(f))
 }
 
 impl Record {
