@@ -3,7 +3,7 @@
  * Link with libshackletongue.a, which `bindings/build` makes; it needs nothing but the C library's memory functions.
  *
  * Each function does what its definition says for every argument: the proof stands beside its source, in the
- * crates ffi, ffi_shape, ffi_path, ffi_outline, ffi_reader and ffi_panel.
+ * crates ffi_floats, ffi_shape, ffi_path, ffi_outline, ffi_reader and ffi_panel.
  *
  * SLICES. Where a parameter NAME is followed by NAME_len, the two are a slice: a pointer to its first element and the
  * number of its elements (elements, not bytes). The caller owns and lends it for the duration of the call; nothing is
@@ -14,7 +14,7 @@
  * Everything else may be anything: any floats, NaNs and infinities included, any counts, any bytes, any lengths.
  *
  * NUMBERS. Unless it is said otherwise a function returns 0 when it is done, or one of the numbers below. A slice that
- * is not const changes only if 0 is returned, with one exception: `place` also tells where, if 6 or 7 is returned.
+ * is not const changes only if 0 is returned, with one exception: `place` also says where, if 6 or 7 is returned.
  * Of several causes the first in this list is returned: 100, then 1 to 7.
  *
  * THREADS. There is no global state: calls on different memory may run at the same time. The stack that a call takes
@@ -87,8 +87,8 @@ uint32_t shackletongue_version(void);
  *   a quadrant: 0 its center, 2 its signed scale (each x, y), 4 its top octant, 13 its right octant;
  *   an octant:  0 its offset (x, y), 2 the half-extent, 3 the degree (0 for a square corner), 4 the circle's start,
  *               6 the circle's center (each x, y), 8 the circle's greatest angle.
- * A shape of other floats is answered by the same definitions; it is harmless, but only shapes made from sizes are
- * shapes that document 01 speaks of.
+ * A shape of other floats is answered by the same definitions; it is harmless, but only a shape made from sizes is sure
+ * to look like one.
  */
 
 /* Makes a shape. Returns 0, 2, 3, 4 or 100. */
@@ -100,7 +100,7 @@ uint32_t shackletongue_contains(const float *shape, size_t shape_len, /* 89 */
                                 float x, float y);
 
 /*
- * Whether outline and touch area of a shape keep together: all four centers lie within its bounds, so that no corner
+ * Whether outline and touch area of a shape are consistent: all four centers lie within its bounds, so that no corner
  * looks the wrong way, and every outline point is finite. Returns 1 if so, 0 if not, or 100. Ask before you cut: some
  * shapes with a zero radius beside a nonzero one are drawn right but touched wrong. `sizes` is what `shape` was made of.
  */

@@ -1,6 +1,6 @@
 //! Takes the original's two files from the folder that SHACKLETONGUE_SOURCE names (the one that
 //! holds crates/emblema-geometry/src), makes the few substitutions that its missing dependency and
-//! document 01's float functions ask, and writes the result to OUT_DIR. Nothing of the original
+//! the written-out elementary functions ask, and writes the result to OUT_DIR. Nothing of the original
 //! stands in this repository.
 //!
 //! Each substitution is counted, and each file's checksum is compared, so that another state of the
@@ -18,21 +18,21 @@ struct Source {
     checksum: u64,
     /// Made in both variants: the crate `glam` and the place of the module `path`.
     placed: &'static [Substitution],
-    /// Made in the variant `written` alone: the platform's functions by document 01's.
+    /// Made in the variant `written` alone: the platform's functions by those that are written out.
     written: &'static [Substitution],
     /// What must stand in the file this often and stays as it is.
     kept: &'static [(&'static str, usize)],
 }
 
 /// In place of `use glam::Vec2;`. The trait serves the variant `written` alone.
-const VEC2: &str = "use crate::{ground::Written as _, vec2::Vec2};";
+const VEC2: &str = "use crate::{elementary::Written as _, vec2::Vec2};";
 
 const SOURCES: [Source; 2] = [
     Source {
         name: "path",
         checksum: 0x8134_ec0c_4fc7_1b5d,
         placed: &[("use glam::Vec2;", VEC2, 1)],
-        // only `arc`, which document 01 leaves out, uses it
+        // only `arc`, which is not ported, uses it
         written: &[(".tan(", ".written_tan(", 1)],
         kept: &[
             (".powf(", 0),

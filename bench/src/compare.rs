@@ -3,7 +3,7 @@
 use crate::library;
 use crate::others::machine;
 use crate::scale::same;
-use oracle::ground;
+use oracle::elementary;
 use oracle::random::Random;
 
 /// How many cases were compared and how many differ; the first few of those are printed.
@@ -94,7 +94,7 @@ fn narrow() {
 const CALLS: u64 = 40_000_000;
 
 /// Half the calls at any bits, half where the drawing code calls it.
-fn elementary<T: Copy>(
+fn in_bulk<T: Copy>(
     name: &'static str,
     any: impl Fn(&mut Random) -> T,
     used: impl Fn(&mut Random) -> T,
@@ -128,12 +128,12 @@ fn two((x, y): (f32, f32)) -> String {
 }
 
 fn pow() {
-    elementary(
+    in_bulk(
         "pow",
         |r| (r.single(), r.single()),
         pow_operands,
         |(b, y)| (library::pow(b, y), 0.0),
-        |(b, y)| (ground::pow(b, y), 0.0),
+        |(b, y)| (elementary::pow(b, y), 0.0),
         two,
     );
 }
@@ -156,34 +156,34 @@ fn pow_operands(r: &mut Random) -> (f32, f32) {
 }
 
 fn sin_cos() {
-    elementary(
+    in_bulk(
         "sin_cos",
         Random::single,
         |r| r.within(-8.0, 8.0) as f32,
         library::sin_cos,
-        ground::sin_cos,
+        elementary::sin_cos,
         one,
     );
 }
 
 fn tan() {
-    elementary(
+    in_bulk(
         "tan",
         Random::single,
         |r| r.within(-8.0, 8.0) as f32,
         |t| (library::tan(t), 0.0),
-        |t| (ground::tan(t), 0.0),
+        |t| (elementary::tan(t), 0.0),
         one,
     );
 }
 
 fn atan2() {
-    elementary(
+    in_bulk(
         "atan2",
         |r| (r.single(), r.single()),
         |r| (r.within(-2e3, 2e3) as f32, r.within(-2e3, 2e3) as f32),
         |(y, x)| (library::atan2(y, x), 0.0),
-        |(y, x)| (ground::atan2(y, x), 0.0),
+        |(y, x)| (elementary::atan2(y, x), 0.0),
         two,
     );
 }

@@ -1,6 +1,7 @@
-//! ns per call of what makes shapes, asks them and builds paths: the library, the original on document
-//! 01's float functions and the original on the platform's, on the same inputs, taken in turns in one
-//! run, many rounds each. Every function stands behind a call.
+//! ns per call of what makes shapes, asks them and builds paths: the library, the original on the
+//! written-out elementary functions and the original on the platform's, on the same inputs, taken in
+//! turns in one run, many rounds each. Every function stands behind a call. bench/README.md says what
+//! each row is.
 
 use std::hint::black_box;
 use std::time::Instant;
@@ -89,7 +90,7 @@ const KINDS: [(&str, fn(&mut Random) -> Sizes); 4] = [
 ];
 
 /// The library's shape.
-fn made(s: &Sizes) -> Shape {
+fn library_shape(s: &Sizes) -> Shape {
     let mut floats = [0.0; 89];
     assert_eq!(
         library::shape(s, &mut floats),
@@ -109,7 +110,7 @@ fn new(kind: &str, make: fn(&mut Random) -> Sizes) {
     for s in &inputs {
         let theirs = shape_floats(&written_shape::new(s));
         assert!(
-            bits(&made(s)).eq(bits(&theirs)),
+            bits(&library_shape(s)).eq(bits(&theirs)),
             "library and oracle differ"
         );
     }
@@ -173,7 +174,7 @@ fn near(r: &mut Random, low: f32, high: f32, from: f64, to: f64) -> f32 {
 fn contains(kind: &str, make: fn(&mut Random) -> Sizes) {
     let mut random = Random(8);
     let inputs: Vec<Sizes> = (0..SHAPES).map(|_| make(&mut random)).collect();
-    let lent: Vec<Shape> = inputs.iter().map(made).collect();
+    let lent: Vec<Shape> = inputs.iter().map(library_shape).collect();
     let written: Vec<_> = inputs.iter().map(written_shape::new).collect();
     let native: Vec<_> = inputs.iter().map(native_shape::new).collect();
     for (place, choose) in PLACES {
@@ -223,7 +224,7 @@ const BUTTON: Sizes = [
 /// ns per outline. `counted` is the library in buffers with room for the outline and not for the largest one,
 /// so that the need is counted first; `outline_need` is the count alone, beside the same outlines of the Rust.
 fn outline(kind: &str, inputs: &[Sizes]) {
-    let lent: Vec<Shape> = inputs.iter().map(made).collect();
+    let lent: Vec<Shape> = inputs.iter().map(library_shape).collect();
     let written: Vec<_> = inputs.iter().map(written_shape::new).collect();
     let native: Vec<_> = inputs.iter().map(native_shape::new).collect();
     let mut path = Path::with_room(1035, 2074);

@@ -70,7 +70,7 @@ struct Drawn {
 }
 
 impl Drawn {
-    /// None where the shape is refused or parts company, or has no area.
+    /// None where the shape is refused, is not consistent or has no area.
     fn new(sizes: &Sizes, path: &mut Path) -> Option<Drawn> {
         let mut shape = [0.0; 89];
         let made = library::shape(sizes, &mut shape) == 0;
@@ -175,7 +175,7 @@ struct Worst {
 #[derive(Default)]
 struct Found {
     shapes: u64,
-    /// Further shapes that are refused, part company or have no area.
+    /// Further shapes that are refused, are not consistent or have no area.
     passed_over: u64,
     samples: u64,
     /// Samples from which a point halfway to the center is not contained, or one far out is.
@@ -279,7 +279,7 @@ fn percent(x: f64) -> String {
     format!("{} %", figure(100.0 * x))
 }
 
-/// The classes of any shapes, and what a run may find them apart at most, by the longer side: a quarter more than docs/DIFFERENCES.md
+/// The classes of any shapes, and what a run may find them apart at most, by the longer side: a quarter more than docs/ACCURACY.md
 /// has; where there is no such figure the class has a 1.
 const CLASSES: [(&str, f64); 6] = [
     ("round corners", 0.0022),
@@ -332,7 +332,7 @@ fn part(r: &mut Random) -> f64 {
 }
 
 /// Kinds of buttons, and what a run may find them apart at most, in itself and by the longer side, near the origin and far from it: a
-/// quarter more than docs/DIFFERENCES.md has.
+/// quarter more than docs/ACCURACY.md has.
 const KINDS: [(&str, fn(&mut Random) -> Button, [[f64; 2]; 2]); 9] = [
     (
         "one radius",
@@ -388,7 +388,7 @@ const KINDS: [(&str, fn(&mut Random) -> Button, [[f64; 2]; 2]); 9] = [
 ];
 
 /// The button with its least corner there, everything rounded to tenths in half of all cases.
-fn placed((sides, radii): Button, corner: P, tenths: bool) -> Sizes {
+fn sizes_at((sides, radii): Button, corner: P, tenths: bool) -> Sizes {
     let half = sides[0].min(sides[1]) / 2.0;
     let round = |x: f64| {
         if tenths {
@@ -417,7 +417,7 @@ fn buttons(make: fn(&mut Random) -> Button, far: bool, count: u64, seed: u64) ->
     while found.shapes < count {
         let corner = [0; 2].map(|_| random.within(low, high));
         let tenths = random.below(2) == 0;
-        let sizes = placed(make(&mut random), corner, tenths);
+        let sizes = sizes_at(make(&mut random), corner, tenths);
         match Drawn::new(&sizes, &mut path) {
             Some(drawn) => found.shape(&drawn, 4, &mut random),
             None => found.passed_over += 1,

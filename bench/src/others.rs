@@ -14,26 +14,26 @@ pub mod machine {
 }
 
 pub mod written {
-    use oracle::ground;
+    use oracle::elementary;
 
     #[inline(never)]
     pub extern "C" fn pow(b: f32, y: f32) -> f32 {
-        ground::pow(b, y)
+        elementary::pow(b, y)
     }
 
     #[inline(never)]
     pub fn sin_cos(t: f32) -> (f32, f32) {
-        ground::sin_cos(t)
+        elementary::sin_cos(t)
     }
 
     #[inline(never)]
     pub extern "C" fn tan(t: f32) -> f32 {
-        ground::tan(t)
+        elementary::tan(t)
     }
 
     #[inline(never)]
     pub extern "C" fn atan2(y: f32, x: f32) -> f32 {
-        ground::atan2(y, x)
+        elementary::atan2(y, x)
     }
 }
 
@@ -66,13 +66,13 @@ macro_rules! shapes {
             use oracle::vec2::Vec2;
             use oracle::$variant::panel;
             use oracle::$variant::path::{access, PathBuilder};
-            use oracle::$variant::superellipse::access::made_of;
+            use oracle::$variant::superellipse::access::from_sizes;
             use oracle::$variant::superellipse::RoundSuperellipse;
 
             /// min, max, and the radii top left, top right, bottom left, bottom right.
             #[inline(never)]
             pub fn new(s: &[f32; 12]) -> RoundSuperellipse {
-                made_of(s)
+                from_sizes(s)
             }
 
             /// The outline, into a builder that is cleared first.

@@ -121,7 +121,7 @@ impl Tally {
 /// What one round compares.
 fn round(inputs: &mut Inputs, tally: &mut Tally) {
     for _ in 0..4000 {
-        shapes::made(inputs, tally);
+        shapes::from_sizes(inputs, tally);
     }
     for _ in 0..1000 {
         shapes::of_any_floats(inputs, tally);

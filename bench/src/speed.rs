@@ -1,8 +1,6 @@
-//! ns per call of the library's functions, of the oracle's written-out ones and of the platform's,
-//! measured in turns in one run, the least of many rounds each. Ratios are told twice: of the least times, and as the median
-//! of the rounds' own, which differ where a shared machine is slower in some rounds. A chain is a run of calls each of
-//! which waits for the one before, as in a solver; otherwise the calls may overlap. For `narrow` and `sqrt` both of the Rust's are
-//! the machine's instruction.
+//! ns per call of the library's float functions, of the oracle's written-out ones and of the
+//! platform's, measured in turns in one run, the least of many rounds each. bench/README.md says what
+//! each row is and what the two ratios are.
 
 use std::hint::black_box;
 use std::time::Instant;
@@ -46,7 +44,7 @@ fn ratio(rounds: &[[f64; 3]], k: usize) -> f64 {
     ratios[ratios.len() / 2]
 }
 
-/// A row of the table: the library, the Rust on document 01's written-out functions and on the platform's.
+/// A row of the table: the library, the Rust on the written-out functions and on the platform's.
 pub fn row(name: &str, how: &str, rounds: &[[f64; 3]], goal: &str) {
     let [library, written, std] =
         [0, 1, 2].map(|k| rounds.iter().map(|r| r[k]).fold(f64::INFINITY, f64::min));

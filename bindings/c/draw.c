@@ -42,7 +42,7 @@ static uint32_t outline(struct path *p, const float *sizes, float *shape)
                                 SHACKLETONGUE_OUTLINE_VERBS, p->points, SHACKLETONGUE_OUTLINE_FLOATS);
 }
 
-/* Reads the path back, segment by segment, as SVG path data; nine digits tell every float from the next. */
+/* Reads the path back, segment by segment, as SVG path data; nine digits are enough for every float. */
 static uint32_t print_path(const struct path *p)
 {
     uint64_t cursor[SHACKLETONGUE_CURSOR_LEN] = {0, 0, 0};
@@ -69,8 +69,8 @@ static uint32_t print_button(struct path *p, int index, const float *sizes)
         printf("<!-- button %d refused %" PRIu32 " -->\n", index, number);
         return SHACKLETONGUE_DONE;
     }
-    int together = shackletongue_is_consistent(sizes, SHACKLETONGUE_SIZES_LEN, shape, SHACKLETONGUE_SHAPE_LEN) == 1;
-    printf("<path id=\"button%d\" fill=\"%s\" d=\"", index, together ? "goldenrod" : "red");
+    int consistent = shackletongue_is_consistent(sizes, SHACKLETONGUE_SIZES_LEN, shape, SHACKLETONGUE_SHAPE_LEN) == 1;
+    printf("<path id=\"button%d\" fill=\"%s\" d=\"", index, consistent ? "goldenrod" : "red");
     number = print_path(p);
     printf("\"/>\n");
     return number;

@@ -1,6 +1,7 @@
 /*
- * Holds every call to what the header promises of refusals: the number, and that no lent slice changes but `place`
- * where it tells where. Prints how many checks were made, or the first that fails.
+ * Holds every call to what the header promises of refusals, the number, and that no lent slice changes but `place`
+ * where it says where; and to what it promises that an accepted call leaves alone. Prints how many checks were made, or
+ * the first that fails.
  */
 #include <math.h>
 #include <stdio.h>
@@ -23,17 +24,19 @@ static int checks;
 /* Everything that a call may be lent, so that one comparison shows whether anything changed. */
 struct memory {
     uint64_t counts[3], need[2], cursor[3], place[2];
-    float places[4], points[16], shape[89], segment[6], rect[4], floats[12];
+    float places[4], points[32], shape[89], segment[6], rect[4], floats[12];
     uint32_t results[SHACKLETONGUE_RESULTS_LEN];
-    uint8_t verbs[8];
+    uint8_t verbs[16];
 };
 
 static struct memory m, before;
 
+#define PATTERN 0x41
+
 /* Fills the memory with a pattern under an empty record. */
 static void reset(void)
 {
-    memset(&m, 0x41, sizeof m);
+    memset(&m, PATTERN, sizeof m);
     memset(m.counts, 0, sizeof m.counts);
     memset(m.cursor, 0, sizeof m.cursor);
     memset(m.place, 0, sizeof m.place);
@@ -46,6 +49,17 @@ static void reset(void)
         CHECK((call) == (number));                                                                                     \
         CHECK(memcmp(&before, &m, sizeof m) == 0);                                                                     \
     } while (0)
+
+static int is_pattern(const unsigned char *byte, const void *end)
+{
+    while (byte != end && *byte == PATTERN)
+        byte++;
+    return byte == end;
+}
+
+/* The array is as it was filled, from this index on. */
+#define KEPT_FROM(index, array)                                                                                        \
+    CHECK(is_pattern((const unsigned char *)&(array)[index], (const char *)(array) + sizeof(array)))
 
 #define PATH(counts_len, places_len, verbs_len, points_len)                                                            \
     m.counts, counts_len, m.places, places_len, m.verbs, verbs_len, m.points, points_len
@@ -121,6 +135,54 @@ static void building(void)
     UNCHANGED(100, shackletongue_conic_need(m.counts, 4, m.places, 4, 1, 0, 2, 0, 1, m.need, 2));
 }
 
+/* A building call, in the front of the buffers. The second conic has two quads, the outline 11 verbs and 10 points. */
+static uint32_t build(int call, size_t verbs_len, size_t points_len)
+{
+    switch (call) {
+    case 0: return shackletongue_move_to(PATH(3, 4, verbs_len, points_len), 1, 2);
+    case 1: return shackletongue_line_to(PATH(3, 4, verbs_len, points_len), 1, 2);
+    case 2: return shackletongue_quad_to(PATH(3, 4, verbs_len, points_len), 1, 2, 3, 4);
+    case 3: return shackletongue_conic_to(PATH(3, 4, verbs_len, points_len), 1, 2, 3, 4, 1);
+    case 4: return shackletongue_conic_to(PATH(3, 4, verbs_len, points_len), 10, 0, 10, 10, 1.01f);
+    case 5: return shackletongue_cubic_to(PATH(3, 4, verbs_len, points_len), 1, 2, 3, 4, 5, 6);
+    case 6: return shackletongue_close(PATH(3, 4, verbs_len, points_len));
+    default: return shackletongue_add_to(square, 89, PATH(3, 4, verbs_len, points_len));
+    }
+}
+
+/* An empty path, or one that holds a line. */
+static void begin(int held)
+{
+    reset();
+    if (held)
+        CHECK(build(1, 16, 32) == 0);
+}
+
+/* Whatever lies behind what a call writes stays, in large buffers and in such as it fills but for an odd float; and
+ * everything stays where a verb or a point is lacking. */
+static void keeping(void)
+{
+    for (int call = 0; call < 8; call++) {
+        for (int held = 0; held < 2; held++) {
+            begin(held);
+            uint64_t verbs_held = m.counts[0], points_held = m.counts[1];
+            CHECK(build(call, 16, 32) == 0);
+            size_t verbs = (size_t)m.counts[0], floats = 2 * (size_t)m.counts[1];
+            KEPT_FROM(verbs, m.verbs);
+            KEPT_FROM(floats, m.points);
+            begin(held);
+            CHECK(build(call, verbs, floats + 1) == 0);
+            KEPT_FROM(verbs, m.verbs);
+            KEPT_FROM(floats, m.points);
+            begin(held);
+            if (verbs > verbs_held)
+                UNCHANGED(5, build(call, verbs - 1, floats + 1));
+            if (floats > 2 * points_held)
+                UNCHANGED(5, build(call, verbs, floats - 1));
+        }
+    }
+}
+
 #define READ(path) shackletongue_read(path, m.cursor, 3, m.segment, 6)
 #define BOX(path) shackletongue_box(path, m.rect, 4, m.place, 1)
 
@@ -157,6 +219,54 @@ static void reading(void)
     CHECK(memcmp(&before, &m, sizeof m) == 0);
 }
 
+/* One segment of each kind, and the end: the floats behind a segment's own stay. */
+static void segments(void)
+{
+    static const int calls[] = {0, 1, 2, 5, 6};
+    static const size_t floats[] = {2, 2, 4, 6, 0, 0};
+    reset();
+    for (int i = 0; i < 5; i++)
+        CHECK(build(calls[i], 16, 32) == 0);
+    for (uint64_t kind = SHACKLETONGUE_MOVE; kind <= SHACKLETONGUE_END; kind++) {
+        memset(m.segment, PATTERN, sizeof m.segment);
+        CHECK(READ(PATH(3, 4, 16, 32)) == 0);
+        CHECK(m.cursor[2] == kind);
+        KEPT_FROM(floats[kind], m.segment);
+    }
+}
+
+/* A reading that is refused, or at the end, stores no float, though the buffers go on at the cursor. */
+static void unread(void)
+{
+    reset();
+    for (int i = 0; i < 32; i++)
+        m.points[i] = (float)i;
+    memset(m.verbs, SHACKLETONGUE_QUAD, sizeof m.verbs);
+    m.counts[0] = 4;
+    m.counts[1] = 8;
+    UNCHANGED(1, READ(PATH(3, 4, 3, 32)));
+    UNCHANGED(1, READ(PATH(3, 4, 16, 15)));
+    m.counts[0] = 0;
+    UNCHANGED(1, READ(PATH(3, 4, 16, 32)));
+    m.counts[0] = 4;
+    m.cursor[0] = 3;
+    m.cursor[1] = 7;
+    UNCHANGED(6, READ(PATH(3, 4, 16, 32)));
+    m.cursor[1] = 6;
+    m.verbs[3] = 5;
+    UNCHANGED(6, READ(PATH(3, 4, 16, 32)));
+    m.verbs[3] = SHACKLETONGUE_QUAD;
+    m.cursor[0] = 4;
+    CHECK(READ(PATH(3, 4, 16, 32)) == 0);
+    CHECK(m.cursor[2] == SHACKLETONGUE_END);
+    KEPT_FROM(0, m.segment);
+    m.cursor[0] = 3;
+    CHECK(READ(PATH(3, 4, 16, 32)) == 0);
+    for (int i = 0; i < 4; i++)
+        CHECK(m.segment[i] == m.points[12 + i]);
+    KEPT_FROM(4, m.segment);
+}
+
 #define RECORD(file, len) shackletongue_record(file, len, m.place, 2, m.floats, 12)
 #define TOUCH(file, len) shackletongue_touch(file, len, 5, 5, m.place, 1)
 #define TOUCH_ALL(file, len) shackletongue_touch_all(file, len, m.results, SHACKLETONGUE_RESULTS_LEN, m.place, 1)
@@ -180,10 +290,12 @@ static void panels(void)
     CHECK(TOUCH_ALL(file, 0) == 0);
     CHECK(m.place[0] == 0);
     CHECK(TOUCH_ALL(file, 12) == 0);
-    CHECK(m.place[0] == 1 && m.results[0] == SHACKLETONGUE_NOWHERE && m.results[1] == 0x41414141);
+    CHECK(m.place[0] == 1 && m.results[0] == SHACKLETONGUE_NOWHERE);
+    KEPT_FROM(1, m.results);
     m.place[0] = 0;
     CHECK(RECORD(file, 12) == 0);
     CHECK(m.place[0] == 12 && m.place[1] == SHACKLETONGUE_TOUCH && m.floats[0] == 0 && m.floats[1] == 0);
+    KEPT_FROM(2, m.floats);
     for (size_t len = 1; len < 12; len++) {
         m.place[0] = 0;
         BROKEN(0, RECORD(file, len));
@@ -192,6 +304,13 @@ static void panels(void)
         BROKEN(12, TOUCH(file, 12 + len));
         BROKEN(12, TOUCH_ALL(file, 12 + len));
     }
+    /* a file that is too long is broken at 0, whichever record is asked, and behind its end too */
+    for (int i = 0; i < 5; i++) {
+        static const uint64_t asked[] = {0, 12, 65536, 65537, UINT64_MAX};
+        m.place[0] = asked[i];
+        BROKEN(0, RECORD(file, sizeof file));
+    }
+    BROKEN(0, TOUCH(file, sizeof file));
     BROKEN(0, TOUCH_ALL(file, sizeof file));
     m.place[0] = UINT64_MAX;
     CHECK(RECORD(file, 12) == 0);
@@ -209,7 +328,10 @@ int main(void)
     reset();
     shapes();
     building();
+    keeping();
     reading();
+    segments();
+    unread();
     panels();
     printf("refusals: %d checks\n", checks);
     return EXIT_SUCCESS;

@@ -1,8 +1,8 @@
-//! The original, built from its own folder by build.rs, in two variants: `written` on document 01's
-//! float functions, which decides every answer, and `native` on the platform's, for comparison of
-//! speed alone.
+//! The original, built from its own folder by build.rs, in two variants: `written` on the elementary
+//! functions as written out here, which decides every answer, and `native` on the platform's, for
+//! comparison of speed alone.
 
-pub mod ground;
+pub mod elementary;
 pub mod panel_files;
 pub mod random;
 pub mod shapes;

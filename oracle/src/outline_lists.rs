@@ -1,6 +1,6 @@
-//! Outlines for the program `replay`: the same text at every run.
+//! Outlines for the program `replay_paths`: the same text at every run.
 
-use crate::replay_lists::{call_words, p, record_words, room, List};
+use crate::path_lists::{call_words, p, record_words, room, List};
 use crate::shapes::{self, Shape};
 use crate::stream::{Call, Stream};
 

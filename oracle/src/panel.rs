@@ -1,8 +1,8 @@
-//! Document 01's panel file and its program `fascia`, and the program `inspect`, over the original.
-//! Stands in both variants.
+//! Panel files and what the programs `fascia` and `inspect` write of them, over the original. Stands in
+//! both variants.
 
 use super::path::{access, PathBuilder};
-use super::superellipse::access::{made_of, shape_floats};
+use super::superellipse::access::{from_sizes, shape_floats};
 use super::superellipse::RoundSuperellipse;
 use crate::stream::{limits, Refusal};
 use crate::vec2::Vec2;
@@ -33,7 +33,7 @@ pub fn first(file: &[u8]) -> Option<(Record, usize)> {
     let record = match (kind, len) {
         (1, 48) => {
             let floats = floats(payload);
-            let shape = limits(&floats).map(|()| made_of(&floats));
+            let shape = limits(&floats).map(|()| from_sizes(&floats));
             Record::Button(Button { floats, shape })
         }
         (2, 8) => {
@@ -137,7 +137,7 @@ fn verdict(button: &Button) -> String {
 }
 
 /// The lines of the program `inspect`.
-pub fn inspection(file: &[u8]) -> Vec<String> {
+pub fn consistency_report(file: &[u8]) -> Vec<String> {
     let records = match records(file) {
         Ok(records) => records,
         Err(at) => return vec![format!("refused 7 at {at}")],
@@ -154,7 +154,8 @@ pub fn inspection(file: &[u8]) -> Vec<String> {
 mod tests {
     use super::report;
 
-    /// Document 01's example: a square, then a touch that it takes and one that it does not.
+    /// The sample panel of the worked examples: a square, then a touch that it takes and one that it
+    /// does not.
     #[test]
     fn example() {
         let floats = [

@@ -1,5 +1,5 @@
-//! Panel files, good and damaged, as a text that the program `panels` reads (docs/ORACLE.md): the
-//! same at every run.
+//! Panel files, good and damaged, as a text that the program `replay_panels` reads (docs/ORACLE.md):
+//! the same at every run.
 
 use crate::random::Random;
 
@@ -98,7 +98,7 @@ fn rounded() -> Shape {
 fn examples(list: &mut List) {
     list.heading("an empty file");
     list.file(&[]);
-    list.heading("document 01's example");
+    list.heading("The sample panel of the worked examples");
     list.file(&[button(&square()), touch(0.0, 0.0), touch(10.0, 10.0)]);
     list.heading("one record of either kind");
     list.file(&[button(&rounded())]);
@@ -284,7 +284,7 @@ fn cuts(list: &mut List) {
 }
 
 /// Shapes at which a rule of the original changes, each with touches about it.
-fn drawn(list: &mut List) {
+fn shape_panels(list: &mut List) {
     list.heading("panels of the oracle's shapes, with touches about them");
     let mut random = Random(0xfa5c_1a00);
     let all = shapes();
@@ -325,7 +325,7 @@ pub fn lines() -> Vec<String> {
     lengths(&mut list);
     damage(&mut list);
     cuts(&mut list);
-    drawn(&mut list);
+    shape_panels(&mut list);
     list.0
 }
 

@@ -1,6 +1,6 @@
 //! Numbers that look random and are the same at every run, on every platform.
 
-use crate::ground::{exp, ln};
+use crate::elementary::{exp, ln};
 
 pub struct Random(pub u64);
 

@@ -80,7 +80,8 @@ impl Maker {
     }
 }
 
-fn drawn(m: &mut Maker) {
+/// As drawings have them.
+fn usual(m: &mut Maker) {
     for _ in 0..80 {
         m.shape(|m, side| [[m.within(0.1, side as f64 / 2.0); 2]; 4]);
     }
@@ -239,7 +240,7 @@ pub fn shapes() -> Vec<Shape> {
         random: Random(0x5ade_11e5),
         list: Vec::new(),
     };
-    drawn(&mut m);
+    usual(&mut m);
     zero_radii(&mut m);
     limits(&mut m);
     great_radii(&mut m);

@@ -1,10 +1,11 @@
-//! A stream over lent buffers, by document 01: the original's builder makes what a call adds, the
-//! limits of the buffers, the refusals, the reader and the box are document 01's own.
+//! A stream over lent buffers: the original's builder makes what a call adds; the limits of the
+//! buffers, the refusals, the reader and the box, which the original lacks, are written out here by
+//! docs/SPECIFICATION.md.
 
 use crate::vec2::Vec2;
 use crate::written::path::access::{self, Conic};
 use crate::written::path::{PathBuilder, Verb};
-use crate::written::superellipse::{access::made_of, RoundSuperellipse};
+use crate::written::superellipse::{access::from_sizes, RoundSuperellipse};
 
 use crate::words::f32_word;
 
@@ -48,7 +49,8 @@ pub fn point_words(p: Vec2) -> String {
     format!("{} {}", f32_word(p.x), f32_word(p.y))
 }
 
-/// Document 01's refusals 2, 3 and 4 of min, max and the radii.
+/// The refusals of a shape's min, max and radii: 2 for a float that is not finite or over 16,384 in
+/// magnitude, 3 for a radius below zero, 4 for a maximum below its minimum.
 pub fn limits(f: &[f32; 12]) -> Result<(), Refusal> {
     let refused = |n: u32| Err(format!("refused {n}"));
     if f.iter().any(|x| !x.is_finite() || x.abs() > 16384.0) {
@@ -65,7 +67,7 @@ pub fn limits(f: &[f32; 12]) -> Result<(), Refusal> {
 
 /// The shape of min, max and the radii, or its refusal.
 pub fn shape(f: &[f32; 12]) -> Result<RoundSuperellipse, Refusal> {
-    limits(f).map(|()| made_of(f))
+    limits(f).map(|()| from_sizes(f))
 }
 
 impl Record {
@@ -92,7 +94,7 @@ impl Stream {
         Vec2::new(self.floats[2 * at], self.floats[2 * at + 1])
     }
 
-    /// Cause 1.
+    /// Refusal 1: more verbs or points than the buffers have, or points and no verb.
     fn record_fits(&self) -> Result<(), Refusal> {
         let r = &self.record;
         let bad = r.verbs > self.verbs.len()

@@ -1,9 +1,9 @@
-//! The two-component vector that the original imports, by document 01's rules: arithmetic goes by
+//! The two-component vector that the original imports, by rules of its own: arithmetic goes by
 //! component, each operation rounded once; squared length is x·x + y·y, squared distance that of
 //! the difference, length its root; normalize multiplies by 1/length; min and max of a NaN and a
 //! number give the number; is_finite needs both components.
 
-use crate::ground;
+use crate::elementary;
 use std::ops::{Add, Div, Mul, Neg, Sub};
 
 #[derive(Debug, Clone, Copy, PartialEq)]
@@ -45,18 +45,24 @@ impl Vec2 {
     }
 
     pub fn min(self, other: Vec2) -> Vec2 {
-        Vec2::new(ground::min(self.x, other.x), ground::min(self.y, other.y))
+        Vec2::new(
+            elementary::min(self.x, other.x),
+            elementary::min(self.y, other.y),
+        )
     }
 
     pub fn max(self, other: Vec2) -> Vec2 {
-        Vec2::new(ground::max(self.x, other.x), ground::max(self.y, other.y))
+        Vec2::new(
+            elementary::max(self.x, other.x),
+            elementary::max(self.y, other.y),
+        )
     }
 
     pub fn is_finite(self) -> bool {
         self.x.is_finite() && self.y.is_finite()
     }
 
-    /// Convexity alone uses it, which document 01 leaves out.
+    /// Convexity alone uses it, which is not ported.
     pub fn perp_dot(self, other: Vec2) -> f32 {
         self.x * other.y - self.y * other.x
     }

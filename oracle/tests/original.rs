@@ -1,4 +1,4 @@
-//! Document 01's examples a to j, run on the original as it is built here.
+//! The worked examples, run on the original as it is built here.
 
 use oracle::vec2::Vec2;
 use oracle::written::path::{access as path, PathBuilder, Rect, Verb};
@@ -14,7 +14,7 @@ fn conic(control: Vec2, target: Vec2, weight: f32) -> PathBuilder {
 }
 
 #[test]
-fn a_to_e_conics_on_an_empty_builder() {
+fn conics_on_an_empty_builder() {
     use Verb::*;
     assert_eq!(path::verbs(&conic(CONTROL, TARGET, 1.0)), [MoveTo, QuadTo]);
     assert_eq!(path::verbs(&conic(CONTROL, TARGET, 0.0)), [MoveTo, LineTo]);
@@ -28,14 +28,14 @@ fn a_to_e_conics_on_an_empty_builder() {
 }
 
 #[test]
-fn f_and_g_table_rows() {
+fn table_rows() {
     assert_eq!(access::n_and_xj(5.0).0, 6.430238);
     assert_eq!(access::n_and_xj(2.5).0, 2.7514899);
     assert_eq!(access::superellipse_conic_factors(3.0, 1.0).0, 0.7895);
 }
 
 #[test]
-fn h_octant_at_the_square_limit() {
+fn the_octant_at_the_square_limit() {
     let limit = 1e-3f32;
     let next = f32::from_bits(limit.to_bits() + 1);
     assert_eq!(access::compute_octant(Vec2::ZERO, 1.0, limit)[3], 0.0);
@@ -43,7 +43,7 @@ fn h_octant_at_the_square_limit() {
 }
 
 #[test]
-fn i_and_j_the_square_of_ten() {
+fn the_square_of_ten() {
     let bounds = Rect::new(Vec2::ZERO, Vec2::splat(10.0));
     let shape = RoundSuperellipse::new(bounds, CornerRadii::uniform(Vec2::ZERO));
     let mut b = PathBuilder::new();

@@ -75,7 +75,7 @@ fn accepted(now: &Path, before: &Path, stream: &Stream, word: u64) -> bool {
         && now.verbs[record.verbs..] == before.verbs[record.verbs..]
 }
 
-/// Whether the need told beforehand is what the call added, or what there was no room for.
+/// Whether the need asked beforehand is what the call added, or what there was no room for.
 fn needed(need: [u64; 2], answer: u32, now: &Path, before: &Path) -> bool {
     let [verbs, points, _] = before.counts;
     let after = [verbs + need[0], points + need[1]];

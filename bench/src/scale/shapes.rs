@@ -52,7 +52,7 @@ fn ask(
 }
 
 /// A shape from twelve floats, points about it and its outline.
-pub fn made(inputs: &mut Inputs, tally: &mut Tally) {
+pub fn from_sizes(inputs: &mut Inputs, tally: &mut Tally) {
     let sizes = inputs.sizes();
     let input = || hex(&sizes);
     let before: Shape = std::array::from_fn(|_| inputs.any());

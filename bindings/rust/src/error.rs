@@ -1,6 +1,6 @@
 use std::fmt;
 
-/// Why a call was refused, with document 01's numbers. A refused call has changed nothing.
+/// Why a call was refused, by the refusals' numbers. A refused call has changed nothing.
 #[derive(Clone, Copy, Debug, PartialEq, Eq, Hash)]
 #[non_exhaustive]
 pub enum Error {
@@ -31,7 +31,7 @@ pub enum Error {
 }
 
 impl Error {
-    /// Document 01's number for the cause.
+    /// The refusal's number, as include/shackletongue.h has it.
     pub const fn number(self) -> u32 {
         match self {
             Error::BadRecord => 1,

@@ -28,9 +28,8 @@
 //! # Ok::<(), Box<dyn std::error::Error>>(())
 //! ```
 //!
-//! Floats are f32 and right to the bit; document 01, whose numbers [`Error`] has, is the
-//! requirements paper of the library. Every type is [`Send`] and [`Sync`]: the library has no state
-//! of its own.
+//! Floats are f32 and right to the bit; what each call answers and refuses is written in
+//! docs/SPECIFICATION.md. Every type is [`Send`] and [`Sync`]: the library has no state of its own.
 
 #![deny(missing_docs)]
 #![deny(unsafe_code)]

@@ -55,8 +55,8 @@ impl PathRecord {
     }
 }
 
-/// A part of a path. Written out it is SVG path data, each float with as many digits as tell it
-/// from all others.
+/// A part of a path. Written out it is SVG path data, each float with as many digits as it takes to
+/// read the same float back.
 #[derive(Clone, Copy, Debug, PartialEq)]
 pub enum Segment {
     /// A contour starts here.

@@ -79,7 +79,7 @@ impl RoundSuperellipse {
         raw::contains(&self.shape, point.x, point.y) == 1
     }
 
-    /// Whether outline and touch area keep together: no corner looks the wrong way, and every point
+    /// Whether outline and touch area are consistent: no corner looks the wrong way, and every point
     /// of the outline is finite. Ask before you cut brass: some shapes with a zero radius beside a
     /// nonzero one are drawn right but touched wrong.
     pub fn is_consistent(&self) -> bool {

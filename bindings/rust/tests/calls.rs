@@ -1,4 +1,4 @@
-//! What each call adds, on examples that tell every argument from the others.
+//! What each call adds, on examples in which no two arguments are alike.
 #![allow(clippy::unwrap_used)]
 
 use shackletongue::{float, CornerRadii, Error, Need, PathBuilder, Point, Rect, RoundSuperellipse};
@@ -51,7 +51,7 @@ fn an_empty_path_is_opened_at_the_origin() {
     }
 }
 
-/// Document 01's examples a to e.
+/// The worked examples of conics: one quad, a line for a weight of 0 or a NaN, and 64 quads.
 #[test]
 fn conics_and_their_words() {
     let conic = |weight: f32| {
@@ -76,7 +76,7 @@ fn conics_and_their_words() {
     assert_eq!(path.conic_to(origin, origin, 3.0), Err(Error::NoRoom));
 }
 
-/// Document 01's example i.
+/// The worked example of an outline.
 #[test]
 fn the_outline_of_a_square() {
     let bounds = Rect::new((0.0, 0.0), (10.0, 10.0));

@@ -1,4 +1,5 @@
-//! Whatever is passed, every call answers: no panic, and the refusal that document 01 names.
+//! Whatever is passed, every call answers: no panic, and of several refusals the one with the least
+//! number.
 #![allow(
     clippy::unwrap_used,
     clippy::indexing_slicing,
@@ -135,7 +136,7 @@ fn any_shape_is_asked_and_drawn() {
 }
 
 #[test]
-fn outline_and_touch_area_that_part_company_are_told() {
+fn an_outline_that_parts_from_the_touch_area_is_not_consistent() {
     let radii = CornerRadii {
         top_right: Point::new(0.3, 0.0),
         ..CornerRadii::default()
@@ -290,7 +291,7 @@ fn touch(x: f32, y: f32) -> Vec<u8> {
 }
 
 #[test]
-fn broken_files_are_told_by_offset() {
+fn broken_files_are_refused_by_offset() {
     let broken = |file: &[u8]| match Panel::new(file) {
         Err(Error::BrokenFile { offset }) => Some(offset),
         _ => None,

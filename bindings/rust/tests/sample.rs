@@ -62,6 +62,6 @@ fn a_broken_file_has_no_picture() {
         .output()
         .unwrap();
     assert!(!preview.status.success() && preview.stdout.is_empty());
-    let told = String::from_utf8(preview.stderr).unwrap();
-    assert_eq!(told, "refused 7: the panel file is broken at offset 0\n");
+    let said = String::from_utf8(preview.stderr).unwrap();
+    assert_eq!(said, "refused 7: the panel file is broken at offset 0\n");
 }

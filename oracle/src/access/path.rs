@@ -3,7 +3,7 @@
 use super::{FillRule, PathBuilder, Verb};
 use crate::vec2::Vec2;
 
-/// The number that document 01 gives a verb.
+/// The number that stands for a verb in a lent buffer.
 pub fn verb_number(v: Verb) -> u8 {
     match v {
         Verb::MoveTo => 0,
@@ -59,7 +59,7 @@ pub fn with_room(verbs: usize, points: usize) -> PathBuilder {
     b
 }
 
-/// The verb that document 01 gives this number.
+/// The verb that this number stands for.
 pub fn verb(number: u8) -> Option<Verb> {
     use Verb::*;
     [MoveTo, LineTo, QuadTo, CubicTo, Close]
@@ -109,7 +109,7 @@ fn spans(c: Conic, depth: u32, start: u32, word: &mut u64, leaves: &mut Vec<[Vec
     }
 }
 
-/// Document 01's joint word: bit k where a quad starts at k of 0 to 64. The quads found on the way
+/// The joint word: bit k where a quad starts at k of 0 to 64. The quads found on the way
 /// must be those that the original makes at once.
 pub fn joint_word(c: Conic) -> u64 {
     let (mut word, mut leaves) = (0, Vec::new());

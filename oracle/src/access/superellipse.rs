@@ -68,7 +68,7 @@ pub fn shape_floats(s: &RoundSuperellipse) -> ([QuadrantFloats; 4], bool) {
 }
 
 /// The shape of min, max, and the radii top left, top right, bottom left, bottom right.
-pub fn made_of(f: &[f32; 12]) -> RoundSuperellipse {
+pub fn from_sizes(f: &[f32; 12]) -> RoundSuperellipse {
     let p = |i: usize| Vec2::new(f[i], f[i + 1]);
     let radii = CornerRadii {
         top_left: p(4),

@@ -1,5 +1,5 @@
 //! Draws a panel file as an SVG: outlines filled, touches marked by the button that they hit,
-//! refused shapes and those whose outline and touch area part company told.
+//! refused shapes and those that are not consistent listed.
 //!
 //!   preview FILE > PICTURE
 //!
@@ -49,8 +49,8 @@ struct Drawing {
     bounds: Rect,
     /// SVG path data; the bounds stand in for an outline that is not finite.
     data: String,
-    /// Whether outline and touch area keep together.
-    together: bool,
+    /// Whether outline and touch area are consistent.
+    consistent: bool,
 }
 
 /// What the picture shows.
@@ -119,7 +119,7 @@ fn draw(index: usize, button: Button) -> Result<Drawing, Error> {
         index,
         bounds,
         data,
-        together: shape.is_consistent(),
+        consistent: shape.is_consistent(),
     })
 }
 
@@ -196,7 +196,7 @@ fn outlines(svg: &mut String, scene: &Scene, page: &Page) -> std::fmt::Result {
         1.6 / page.scale
     )?;
     for d in scene.drawings.iter().rev() {
-        let (fill, stroke) = if d.together {
+        let (fill, stroke) = if d.consistent {
             (colour(d.index, 0.6, 0.82), colour(d.index, 0.6, 0.3))
         } else {
             ("url(#parts)".to_string(), WARNING.to_string())
@@ -211,7 +211,7 @@ fn outlines(svg: &mut String, scene: &Scene, page: &Page) -> std::fmt::Result {
     for d in &scene.drawings {
         let (left, top) = page.place(d.bounds.min);
         let (right, _) = page.place(d.bounds.max);
-        let (fill, note) = if d.together {
+        let (fill, note) = if d.consistent {
             (colour(d.index, 0.6, 0.3), "")
         } else {
             (WARNING.to_string(), " parts company")
@@ -344,7 +344,7 @@ fn legend(scene: &Scene, page: &Page) -> Result<Legend, std::fmt::Error> {
     for (number, reason) in reasons {
         legend.line("entry", NOWHERE, &format!("{number}: {reason}"))?;
     }
-    let apart: Vec<_> = scene.drawings.iter().filter(|d| !d.together).collect();
+    let apart: Vec<_> = scene.drawings.iter().filter(|d| !d.consistent).collect();
     let apart = apart
         .iter()
         .map(|d| (WARNING.to_string(), format!("button {}", d.index)));
@@ -384,7 +384,7 @@ fn picture(scene: &Scene) -> Result<String, std::fmt::Error> {
     Ok(svg)
 }
 
-/// The picture of a file, or what to tell.
+/// The picture of a file, or why there is none.
 fn preview(name: &Path) -> Result<String, String> {
     let file = fs::read(name).map_err(|error| format!("{}: {error}", name.display()))?;
     let refused = |error: Error| format!("refused {}: {error}", error.number());

@@ -1,6 +1,6 @@
-//! Document 01's float ground, line by line: pow, sin and cos, tan and atan2 written out in f64
-//! steps, each rounded once in the order written, with no fused steps; and min, max and clamp.
-//! W is `as f64` and N is `as f32`, which rounds to nearest, ties to even.
+//! The elementary functions (docs/SPECIFICATION.md): pow, sin and cos, tan and atan2 written out in
+//! f64 steps, each rounded once in the order written, with no fused steps; and min, max and clamp.
+//! `as f64` is exact, `as f32` rounds to nearest, ties to even.
 
 use std::f64::consts::{LN_2, PI};
 
@@ -33,7 +33,8 @@ pub fn clamp(x: f32, lo: f32, hi: f32) -> f32 {
     }
 }
 
-/// H(c, z, m) of a row c_0 to c_m: begin with c_m; for k from m−1 down to 0 multiply by z, add c_k.
+/// Horner's scheme of a row c_0 to c_m: begin with c_m; for k from m - 1 down to 0 multiply by z
+/// and add c_k.
 #[inline(always)]
 fn horner<const N: usize>(c: &[f64; N], z: f64) -> f64 {
     let mut sum = c[N - 1];
@@ -190,7 +191,7 @@ pub fn atan2(y: f32, x: f32) -> f32 {
     v as f32
 }
 
-/// A(r)
+/// The angle whose tangent is r, of 0 to 1: above a half by its difference from that of 1.
 fn first_octants(r: f64) -> f64 {
     if r <= 0.5 {
         atan_series(r)
@@ -199,7 +200,7 @@ fn first_octants(r: f64) -> f64 {
     }
 }
 
-/// T(r)
+/// The same by its series, for an r of -1/3 to 1/2.
 fn atan_series(r: f64) -> f64 {
     r * horner(&ATAN, r * r)
 }

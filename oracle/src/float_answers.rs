@@ -1,6 +1,6 @@
-//! One answer for each vector: a line with a function's name and its operands.
+//! One answer for each line of the list of floats: a function's name and its operands.
 
-use oracle::ground;
+use oracle::elementary;
 use oracle::vec2::Vec2;
 
 use crate::words::{f32_word, f64_word, parse_f32, parse_f64, words};
@@ -25,8 +25,8 @@ pub enum Function {
 
 use Function::*;
 
-/// The functions of the float ground under the names that the vectors use. The machine's own
-/// instructions answer for `widen`, `narrow` and `sqrt`: IEEE 754 decides those.
+/// The float functions under the names that the list uses. The machine's own instructions answer
+/// for `widen`, `narrow` and `sqrt`: IEEE 754 decides those.
 pub const FUNCTIONS: [(&str, Function); 26] = [
     ("widen", Widening(|x| x as f64)),
     ("narrow", Narrowing(|x| x as f32)),
@@ -34,9 +34,9 @@ pub const FUNCTIONS: [(&str, Function); 26] = [
     ("is_finite", Test(f32::is_finite)),
     ("abs", Single(f32::abs)),
     ("abs_f64", Double(f64::abs)),
-    ("min", Binary(ground::min)),
-    ("max", Binary(ground::max)),
-    ("clamp", Ternary(ground::clamp)),
+    ("min", Binary(elementary::min)),
+    ("max", Binary(elementary::max)),
+    ("clamp", Ternary(elementary::clamp)),
     ("point_add", PointBinary(|p, q| p + q)),
     ("point_sub", PointBinary(|p, q| p - q)),
     ("point_mul", PointBinary(|p, q| p * q)),
@@ -53,10 +53,10 @@ pub const FUNCTIONS: [(&str, Function); 26] = [
     ("point_length", PointMeasure(Vec2::length)),
     ("point_normalize", PointUnary(Vec2::normalize)),
     ("point_is_finite", PointTest(Vec2::is_finite)),
-    ("pow", Binary(ground::pow)),
-    ("sin_cos", Pair(ground::sin_cos)),
-    ("tan", Single(ground::tan)),
-    ("atan2", Binary(ground::atan2)),
+    ("pow", Binary(elementary::pow)),
+    ("sin_cos", Pair(elementary::sin_cos)),
+    ("tan", Single(elementary::tan)),
+    ("atan2", Binary(elementary::atan2)),
 ];
 
 fn singles<const N: usize>(operands: &[&[u8]]) -> Option<[f32; N]> {
@@ -141,7 +141,7 @@ fn answer_of(function: &Function, operands: &[&[u8]]) -> Option<String> {
     })
 }
 
-/// What is printed for a line: nothing where it has no word, `bad` where it is no vector.
+/// What is printed for a line: nothing where it has no word, `bad` where it asks for nothing.
 pub fn answer(line: &[u8]) -> Option<String> {
     let Some(words) = words(line) else {
         return Some("bad".to_string());

@@ -1,4 +1,4 @@
-//! The answers to a text of calls, streams and points: docs/REPLAY.md.
+//! What the program `replay_paths` answers to a text of calls, streams and points: docs/REPLAY.md.
 
 use oracle::vec2::Vec2;
 
@@ -94,12 +94,12 @@ fn contains(f: &[f32; 14]) -> Result<String, Refusal> {
 }
 
 /// What is printed: the answer or the refusal.
-fn said(answer: Result<String, Refusal>) -> String {
+fn text_of(answer: Result<String, Refusal>) -> String {
     answer.unwrap_or_else(|refusal| refusal)
 }
 
-fn built(s: &mut Stream, call: Call) -> String {
-    said(s.build(call).map(|word| {
+fn build_answer(s: &mut Stream, call: Call) -> String {
+    text_of(s.build(call).map(|word| {
         let counts = format!("ok {} {}", s.record.verbs, s.record.points);
         match word {
             Some(word) => format!("{counts} word {word:016x}"),
@@ -108,8 +108,8 @@ fn built(s: &mut Stream, call: Call) -> String {
     }))
 }
 
-fn cursor(s: &Stream, at: [usize; 2]) -> String {
-    said(s.read(at).map(|r| {
+fn cursor_answer(s: &Stream, at: [usize; 2]) -> String {
+    text_of(s.read(at).map(|r| {
         let [v, p] = r.next;
         let segment = match r.segment {
             Some((verb, points)) => segment_words(verb, &points),
@@ -119,8 +119,8 @@ fn cursor(s: &Stream, at: [usize; 2]) -> String {
     }))
 }
 
-fn bounds(s: &Stream) -> String {
-    said(s.bounds().map(|found| match found {
+fn box_answer(s: &Stream) -> String {
+    text_of(s.bounds().map(|found| match found {
         None => "empty".to_string(),
         Some(b) => format!("box {}", b.map(f32_word).join(" ")),
     }))
@@ -231,21 +231,21 @@ impl Replay {
             }
             b"cursor" => {
                 let at = numbers(words)?;
-                let answer = cursor(self.asked()?, at);
+                let answer = cursor_answer(self.asked()?, at);
                 self.out.push(answer);
             }
             b"box" => {
                 let [] = singles(words)?;
-                let answer = bounds(self.asked()?);
+                let answer = box_answer(self.asked()?);
                 self.out.push(answer);
             }
             b"contains" => {
-                let answer = said(contains(&singles(words)?));
+                let answer = text_of(contains(&singles(words)?));
                 self.out.push(answer);
             }
             _ => {
                 let call = call(name, words)?;
-                let answer = built(self.list()?, call);
+                let answer = build_answer(self.list()?, call);
                 self.out.push(answer);
             }
         }

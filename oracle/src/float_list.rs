@@ -1,8 +1,8 @@
-//! The vectors of the float ground: the same list at every run.
+//! Test vectors of the float functions for the program `replay_floats`: the same list at every run.
 
-use crate::answers::{Function, Function::*, FUNCTIONS};
+use crate::float_answers::{Function, Function::*, FUNCTIONS};
 use crate::words::{f32_word, f64_word};
-use oracle::ground::{exp, ln};
+use oracle::elementary::{exp, ln};
 use oracle::random::Random;
 
 /// Values at which a rule changes, by their bits: zeros, the ends of the subnormal and of the
@@ -366,7 +366,7 @@ fn bad_lines(list: &mut List) {
     list.lines.push("narrow fff8000000000001".to_string());
 }
 
-pub fn vectors() -> Vec<String> {
+pub fn lines() -> Vec<String> {
     let mut list = List {
         lines: Vec::new(),
         random: Random(0x5eed),

@@ -1,8 +1,9 @@
-//! Calls, streams and points for the program `replay`: the same text at every run.
+//! Calls, streams and points for the program `replay_paths`: the same text at every run.
 
 use oracle::random::Random;
 use oracle::vec2::Vec2;
 
+use crate::kept_lists;
 use crate::outline_lists;
 use crate::shapes;
 use crate::stream::{point_words, Call, Stream};
@@ -180,7 +181,7 @@ fn fits(list: &mut List) {
 }
 
 fn examples(list: &mut List) {
-    list.heading("document 01's examples a to e");
+    list.heading("A list of building calls");
     for w in [1.0, 0.0, 3.0, f32::NAN] {
         list.list(8, 16, &[Call::Conic(p(1.0, 0.0), p(2.0, 0.0), w)]);
     }
@@ -486,7 +487,7 @@ fn empty(seed: u64) -> List {
 }
 
 /// The last line but one is a bad one.
-pub fn lists() -> Vec<String> {
+pub fn lines() -> Vec<String> {
     let mut list = empty(0x7ea1);
     examples(&mut list);
     fits(&mut list);
@@ -498,6 +499,7 @@ pub fn lists() -> Vec<String> {
     spacing(&mut list);
     containment(&mut list);
     outline_lists::add_to(&mut list);
+    kept_lists::add_to(&mut list);
     list.heading("a bad line is the last");
     list.line("buffers 4097 0".to_string());
     list.line("contains".to_string());
