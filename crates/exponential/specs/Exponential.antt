@@ -13,9 +13,9 @@ floor_of (inf s) = pos 0
 floor_of (fin false m e) = pos (m * up e / down e)
 floor_of (fin true m e) = neg_ℤ (pos ((m * up e + (down e - 1)) / down e))
 
--- Above 100 it is past the largest `f32` and below -110 less than half of the least: infinity and zero stand for it. Else t
--- is g·ln 2 + r with a whole number g, and exp t is 2^g·exp r: of exp r = 1 + r + r²/2! + r³/3! + .. fourteen terms are
--- summed.
+-- Above 100 it is past the largest `f32` and below -110 less than half of the least: infinity and zero stand for it.
+-- Else t is g·ln 2 + r with a whole number g, and exp t is 2^g·exp r: of exp r = 1 + r + r²/2! + r³/3! + .. fourteen
+-- terms are summed.
 unfoldable pub exp_of : Float → Float
 exp_of t =
     if lt hundred t then inf false

@@ -1,5 +1,5 @@
--- The natural logarithm of a finite number above 0. The steps are `f64`, each rounded once, in the order written here.
--- Definitions only.
+-- The natural logarithm of a finite number above 0. The steps are `f64`, each rounded once, in the order written
+-- here. Definitions only.
 use Rattle.std.specs.Prelude.{false, ℤ, pos, ◌+ℤ◌, Float, if◌then◌else◌}
 use Rattle.std.specs.Float.{nan, inf, fin, binary64}
 use Rattle.std.specs.Float.Ieee.{le, of_int, minus, size}

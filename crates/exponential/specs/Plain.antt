@@ -1,5 +1,5 @@
--- Where exp and pow have no special case, and the last steps of ln and exp. Cited by the contracts of inner functions.
--- Definitions only.
+-- Where exp and pow have no special case, and the last steps of ln and exp. Cited by the contracts of inner
+-- functions. Definitions only.
 use Rattle.std.specs.Prelude.{◌≡◌, Bool, true, false, ◌&&◌, Float}
 use Rattle.std.specs.Float.{inf}
 use Rattle.std.specs.Float.Ieee.{lt, ne}

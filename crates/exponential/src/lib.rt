@@ -1,5 +1,5 @@
-//! The power function. The steps are f64, each rounded once in the order that the definitions of specs/ have; only the result
-//! is narrowed.
+//! The power function. The steps are f64, each rounded once in the order that the definitions of specs/ have; only
+//! the result is narrowed.
 
 #![tactic(auto)]
 
@@ -39,8 +39,8 @@ struct Parts {
     e: f64,
 }
 
-// The digits of u's pattern are those of f, and its exponent is e + 1023. The first digit after the point says whether f is 1.5
-// at least; then f is halved by the exponent of its pattern.
+// The digits of u's pattern are those of f, and its exponent is e + 1023. The first digit after the point says
+// whether f is 1.5 at least; then f is halved by the exponent of its pattern.
 fn parts_of(u: f64) -> Parts
     requires is_single { T (fits binary32 u) }
     requires is_positive { T (positive u) }
@@ -90,8 +90,8 @@ fn summed<const N: usize>(p: [LogParts; N]) -> [f64; N]
     lanes::pairwise(p, h, |p, h| p.e * LN_2 + (2.0 * p.s) * h)
 }
 
-// The logarithms of N numbers, side by side. The bound on N, here and in each function below that has it: N records of two f64
-// fit in memory, which the types of the arrays of floats do not say.
+// The logarithms of N numbers, side by side. The bound on N, here and in each function below that has it: N records
+// of two f64 fit in memory, which the types of the arrays of floats do not say.
 fn logarithms<const N: usize>(b: [f32; N]) -> [f64; N]
     requires few { N < 2 ^ 59 }
     requires above_zero { All (λ (x : Float). T (positive x)) b }
@@ -100,8 +100,8 @@ fn logarithms<const N: usize>(b: [f32; N]) -> [f64; N]
     summed(lanes::each(b, log_parts_of))
 }
 
-// The same of N numbers and of N others. The two series stand one behind the other, so that a processor begins the second while
-// the first, the longest wait, goes on.
+// The same of N numbers and of N others. The two series stand one behind the other, so that a processor begins the
+// second while the first, the longest wait, goes on.
 fn logarithms_of_both<const N: usize>(b: [f32; N], c: [f32; N]) -> ([f64; N], [f64; N])
     requires few { N < 2 ^ 59 }
     requires above_zero { All (λ (x : Float). T (positive x)) b }
@@ -288,7 +288,8 @@ pub fn pow(base: f32, exponent: f32) -> f32
 
 // Whether of these none of pow's rules but the last applies.
 fn all_plain<const N: usize>(bases: [f32; N], exponents: [f32; N]) -> bool
-    ensures { result ≡ (list_all plain_base bases.entry && list_all plain_exponent exponents.entry) }
+    ensures { result
+        ≡ (list_all plain_base bases.entry && list_all plain_exponent exponents.entry) }
 {
     let base = lanes::all_between(bases, 0.0, 1.0 / 0.0) & lanes::all_differ(bases, 1.0);
     let exponent = lanes::all_between(exponents, -1.0 / 0.0, 1.0 / 0.0)
@@ -304,8 +305,8 @@ fn powers_apart<const N: usize>(bases: [f32; N], exponents: [f32; N]) -> [f32; N
     lanes::pairwise(bases, exponents, pow)
 }
 
-/// The powers of N bases, each by the exponent at its place. They go side by side where none is a special case, so that none
-/// waits for another. N is a power of two, at most 64: a vector has as many lanes.
+/// The powers of N bases, each by the exponent at its place. They go side by side where none is a special case, so
+/// that none waits for another. N is a power of two, at most 64: a vector has as many lanes.
 pub fn powers<const N: usize>(bases: [f32; N], exponents: [f32; N]) -> [f32; N]
     requires { N < 2 ^ 59 }
     ensures { result ≡ zip2 pow_of bases.entry exponents.entry }
@@ -316,8 +317,9 @@ pub fn powers<const N: usize>(bases: [f32; N], exponents: [f32; N]) -> [f32; N]
     powers_apart(bases, exponents)
 }
 
-/// `powers` of N bases and of N others. One or two go side by side with as many others where none is a special case, the series
-/// of the one behind those of the other: they alone are a chain that leaves a processor idle, which more of them keep busy.
+/// `powers` of N bases and of N others. One or two go side by side with as many others where none is a special case,
+/// the series of the one behind those of the other: they alone are a chain that leaves a processor idle, which more
+/// of them keep busy.
 pub fn powers_of_both<const N: usize>(
     bases: [f32; N],
     exponents: [f32; N],

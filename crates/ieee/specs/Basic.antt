@@ -4,8 +4,8 @@ use Rattle.std.specs.Prelude.{false, Float, if◌then◌else◌}
 use Rattle.std.specs.Float.{nan, inf, fin, float_clamp}
 use Rattle.std.specs.Float.Ieee.{lt, ne}
 
--- A value of the narrower format is a value of the wider one, the same number with the same sign; an infinity and a NaN
--- stay what they are.
+-- A value of the narrower format is a value of the wider one, the same number with the same sign; an infinity and a
+-- NaN stay what they are.
 unfoldable pub widen_of : Float → Float
 widen_of x = x
 

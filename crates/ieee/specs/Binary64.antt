@@ -1,5 +1,5 @@
--- Rust's + - * / on two `f64`, written ⊕ ⊖ ⊗ ⊘ with Rust's precedence: each rounds once, to binary64; and the constants that
--- several files name. Definitions only.
+-- Rust's + - * / on two `f64`, written ⊕ ⊖ ⊗ ⊘ with Rust's precedence: each rounds once, to binary64; and the
+-- constants that several files name. Definitions only.
 use Rattle.std.specs.Prelude.{Float}
 use Rattle.std.specs.Float.{binary64}
 use Rattle.std.specs.Float.Ieee.{of_bits, add, sub, mul, div}

@@ -72,7 +72,8 @@ pub fn max(a: f32, b: f32) -> f32
     a
 }
 
-/// x, or the end of the range from lo to hi that it is past; a NaN stays. The library's `clamp` asks that lo is at most hi.
+/// x, or the end of the range from lo to hi that it is past; a NaN stays. The library's `clamp` asks that lo is at
+/// most hi.
 #[tactic(auto, unfolding(crate::specs::Basic::clamp_of))]
 pub fn clamp(x: f32, lo: f32, hi: f32) -> f32
     ensures { result ≡ clamp_of x lo hi }
@@ -86,9 +87,9 @@ pub fn clamp(x: f32, lo: f32, hi: f32) -> f32
     x
 }
 
-// The pattern of the f32 nearest to the f64 with the pattern a, both without their signs, where the f64 is at least the least
-// normal f32 and below 2^128. The pattern itself is rounded: a carry out of the digits is one more in the exponent, and one out
-// of the largest exponent makes the infinity's pattern.
+// The pattern of the f32 nearest to the f64 with the pattern a, both without their signs, where the f64 is at least
+// the least normal f32 and below 2^128. The pattern itself is rounded: a carry out of the digits is one more in the
+// exponent, and one out of the largest exponent makes the infinity's pattern.
 fn rounded_pattern(a: u64) -> u64
     requires at_least { 0x3810_0000_0000_0000 ≤ a }
     requires below { a < 0x47f0_0000_0000_0000 }
@@ -98,7 +99,7 @@ fn rounded_pattern(a: u64) -> u64
 }
 
 // The nearest f32 by x's pattern, with no branch.
-fn narrow_pattern(x: f64) -> f32
+fn narrow_by_pattern(x: f64) -> f32
     requires number { NotNan x }
     requires at_least { 0x3810_0000_0000_0000 ≤ to_bits binary64 x % 2 ^ 63 }
     requires below { to_bits binary64 x % 2 ^ 63 < 0x47f0_0000_0000_0000 }
@@ -109,18 +110,27 @@ fn narrow_pattern(x: f64) -> f32
     f32::from_bits(((bits >> 63) * 0x8000_0000 + p) as u32)
 }
 
-/// The f32 nearest to x. Where that is a normal number, by x's pattern: the library's rounding takes several times as long.
+// Compiled apart, so that the usual case needs no more registers than it uses.
 #[tactic(auto, unfolding(crate::specs::Narrow::narrow_of))]
+#[cold]
+#[inline(never)]
+fn narrow_apart(x: f64) -> f32
+    ensures { result ≡ narrow_of x }
+{
+    std::num::nearest_f64_to_f32_with_nan(x)
+}
+
+/// The f32 nearest to x. Where x is in the range of the normal f32, the usual case, by its pattern, which is quicker.
 pub fn narrow(x: f64) -> f32
     ensures { result ≡ narrow_of x }
 {
     if x == x {
         let size = f64::to_bits(x) % 0x8000_0000_0000_0000;
         if std::num::wrapping_sub_u64(size, 0x3810_0000_0000_0000) < 0xfe0_0000_0000_0000 {
-            return narrow_pattern(x);
+            return narrow_by_pattern(x);
         }
     }
-    std::num::nearest_f64_to_f32_with_nan(x)
+    narrow_apart(x)
 }
 
 /// `narrow` of a number that is regular. It has no branch, so that several go side by side.
@@ -128,7 +138,7 @@ pub fn narrow_regular(x: f64) -> f32
     requires { regular x ≡ true }
     ensures { result ≡ narrow_of x }
 {
-    narrow_pattern(x)
+    narrow_by_pattern(x)
 }
 
 /// The square root. The language's own, which `sqrt_of` says in whole numbers.

@@ -1,6 +1,7 @@
--- What it means that a value is a number rounded to a format, the format being a variable: of the format's values none is
--- nearer, and of two as near it is the one that ends in an even digit. There are no real numbers here: a number is known by
--- how it compares with fractions, every denominator multiplied out. Definitions only. Assumes nothing.
+-- What it means that a value is a number rounded to a format, the format being a variable: of the format's values
+-- none is nearer, and of two as near it is the one that ends in an even digit. There are no real numbers here: a
+-- number is known by how it compares with fractions, every denominator multiplied out. Definitions only. Assumes
+-- nothing.
 use Rattle.std.specs.Prelude.{◌≡◌, ℕ, suc, ◌+◌, ◌-◌, ◌*◌, ◌%◌, ◌^◌, ◌≤◌, ◌<◌, Bool, true, false, T, Float}
 use Rattle.std.specs.Float.{nan, inf, fin, Format}
 use Rattle.std.specs.Float.Ieee.{prec, emax, unlike, fits, to_bits, ne}
@@ -61,8 +62,8 @@ sign nan = false
 sign (inf s) = s
 sign (fin s m e) = s
 
--- Of two finite values, x is no farther than y is from the number with the size v and the sign s. p and q say which of
--- them has the other sign.
+-- Of two finite values, x is no farther than y is from the number with the size v and the sign s. p and q say which
+-- of them has the other sign.
 unfoldable pub Nearer : Number → Bool → Float → Float → Type 0
 Nearer v s x y =
     let p = unlike s (sign x) in
@@ -83,8 +84,8 @@ pub record Rounded (f : Format) (s : Bool) (v : Number) (x : Float) : Type 0 whe
   -- x is a value of the format and has the sign s, also where it is a zero
   pub held : T (fits f x)
   pub signed : sign x ≡ s
-  -- from the largest finite value and half a unit of its last digit on, that tie included, x is an infinity; below that
-  -- it is finite, so it is never a NaN
+  -- from the largest finite value and half a unit of its last digit on, that tie included, x is an infinity; below
+  -- that it is finite, so it is never a NaN
   pub infinite : at_least v (2 * largest f + last f) 2 → x ≡ inf s
   pub bounded : below v (2 * largest f + last f) 2 → T (finite x)
   -- no finite value of the format, of either sign, is nearer than a finite x

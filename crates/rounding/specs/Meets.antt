@@ -20,15 +20,16 @@ pub record OperationsMeetIeee754 : Type 0 where
   -- `largest`: a value of the format has it, and no finite one is above it
   pub largest-held : (f : Format) → (y : Float) × T (fits f y) × HasValue y false (largest f) 1
   pub largest-above : (f : Format) (y : Float) → T (fits f y) → T (finite y) → num y ≤ largest f * den y
-  -- ---- Rounding, over either format: the library's `round`, in which its operators end, and the root's definition. The
-  -- rounded value is the only one.
+  -- ---- Rounding, over either format: the library's `round`, in which its operators end, and the root's definition.
+  -- The rounded value is the only one.
   pub round_rounded : (f : Format) (s : Bool) (n d : ℕ) → 0 < d → Rounded f s (fraction n d) (round f s n d)
   pub rounded_is_round :
       (f : Format) (s : Bool) (n d : ℕ) (x : Float) → 0 < d → Rounded f s (fraction n d) x → x ≡ round f s n d
   pub root_rounded : (f : Format) (n d : ℕ) → 0 < d → Rounded f false (root n d) (root_of f n d)
   pub rounded_is_root :
       (f : Format) (n d : ℕ) (x : Float) → 0 < d → Rounded f false (root n d) x → x ≡ root_of f n d
-  -- ---- To the narrower format: a finite value is rounded and keeps its sign, an infinity and a NaN stay what they are.
+  -- ---- To the narrower format: a finite value is rounded and keeps its sign, an infinity and a NaN stay what they
+  -- are.
   pub narrow_rounded :
       (x : Float) → T (finite x) → Rounded binary32 (sign x) (fraction (num x) (den x)) (narrow_of x)
   pub narrow_infinity : (s : Bool) → narrow_of (inf s) ≡ inf s

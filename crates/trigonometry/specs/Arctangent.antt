@@ -1,5 +1,5 @@
--- The angle of a point (x, y) from the x axis, positive towards y. The steps are `f64`, each rounded once, in the order
--- written here; only the result is narrowed. Definitions only.
+-- The angle of a point (x, y) from the x axis, positive towards y. The steps are `f64`, each rounded once, in the
+-- order written here; only the result is narrowed. Definitions only.
 use Rattle.std.specs.Prelude.{ℕ, not, ◌&&◌, Float, if◌then◌else◌}
 use Rattle.std.specs.Float.{nan, binary64, pi}
 use Rattle.std.specs.Float.Ieee.{neg, lt, le, eq}

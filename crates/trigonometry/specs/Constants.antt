@@ -1,5 +1,5 @@
--- The numbers in the rules for angles that these rules alone name, by their bit patterns; std's `pi binary64` is the `f64`
--- nearest to π. Definitions only.
+-- The numbers in the rules for angles that these rules alone name, by their bit patterns; std's `pi binary64` is the
+-- `f64` nearest to π. Definitions only.
 use Rattle.std.specs.Prelude.{Float}
 use Rattle.std.specs.Float.{binary64}
 use Rattle.std.specs.Float.Ieee.{of_bits}

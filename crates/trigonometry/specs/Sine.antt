@@ -1,5 +1,5 @@
--- The sine, cosine and tangent of an angle. The steps are `f64`, each rounded once, in the order written here; only the
--- results are narrowed. Definitions only.
+-- The sine, cosine and tangent of an angle. The steps are `f64`, each rounded once, in the order written here; only
+-- the results are narrowed. Definitions only.
 use Rattle.std.specs.Prelude.{ℕ, ◌+◌, ◌*◌, ◌||◌, List, map, Float, if◌then◌else◌}
 use Rattle.std.specs.Float.{nan}
 use Rattle.std.specs.Float.Ieee.{lt, ne}
@@ -20,7 +20,8 @@ sine_term = alternating (λ k. factorial_reciprocal (2 * k + 1))
 unfoldable pub cosine_term : ℕ → Float
 cosine_term = alternating (λ k. factorial_reciprocal (2 * k))
 
--- of the sixteenth q of an angle: sin q = q - q³/3! + q⁵/5! - .. and cos q = 1 - q²/2! + q⁴/4! - .., eight terms of each
+-- of the sixteenth q of an angle: sin q = q - q³/3! + q⁵/5! - .. and cos q = 1 - q²/2! + q⁴/4! - .., eight terms of
+-- each
 unfoldable pub sixteenth_of : Float → Pair
 sixteenth_of t =
     let q = t ⊘ sixteen in

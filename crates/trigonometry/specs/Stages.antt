@@ -1,5 +1,5 @@
--- The last rule of atan2 in stages, so that several angles can go side by side, and where it applies. Cited by the contracts
--- of inner functions. Definitions only.
+-- The last rule of atan2 in stages, so that several angles can go side by side, and where it applies. Cited by the
+-- contracts of inner functions. Definitions only.
 use Rattle.std.specs.Prelude.{Bool, not, ◌&&◌, Float, if◌then◌else◌}
 use Rattle.std.specs.Float.{binary64, pi}
 use Rattle.std.specs.Float.Ieee.{eq, le}

@@ -1,5 +1,5 @@
-//! Sine, cosine, tangent and the angle of a point. The steps are f64, each rounded once in the order that the definitions of
-//! specs/ have; only the results are narrowed.
+//! Sine, cosine, tangent and the angle of a point. The steps are f64, each rounded once in the order that the
+//! definitions of specs/ have; only the results are narrowed.
 
 #![tactic(auto)]
 
@@ -181,8 +181,8 @@ fn raised(r: f64, v: f64) -> f64
     PI / 4.0 + v
 }
 
-// The arctangents of N numbers, side by side. The series stands once for both cases, so that no branch but a choice between
-// numbers is left.
+// The arctangents of N numbers, side by side. The series stands once for both cases, so that no branch but a choice
+// between numbers is left.
 fn arctangents<const N: usize>(r: [f64; N]) -> [f64; N]
     ensures { result ≡ map arctangent_of r.entry }
 {
@@ -293,7 +293,8 @@ pub fn atan2(y: f32, x: f32) -> f32
     0.0 / 0.0
 }
 
-// Whether none of atan2's rules but the last applies. More is asked, that no y is 0: so three tests of whole arrays are enough.
+// Whether none of atan2's rules but the last applies. More is asked, that no y is 0: so three tests of whole arrays
+// are enough.
 fn all_plain<const N: usize>(ys: [f32; N], xs: [f32; N]) -> bool
     ensures { result ≡ true → list_all (λ (b : Bool). b) (zip2 plain ys.entry xs.entry) ≡ true }
 {
@@ -311,8 +312,8 @@ fn angles_apart<const N: usize>(ys: [f32; N], xs: [f32; N]) -> [f32; N]
     lanes::pairwise(ys, xs, atan2)
 }
 
-// The angles of N points. They go side by side where none is a special case, so that none waits for another. The bound on N, here
-// and in each function below: N places of two f64 fit in memory, which the types do not say.
+// The angles of N points. They go side by side where none is a special case, so that none waits for another. The
+// bound on N, here and in each function below: N places of two f64 fit in memory, which the types do not say.
 fn angles<const N: usize>(ys: [f32; N], xs: [f32; N]) -> [f32; N]
     requires { N < 2 ^ 59 }
     ensures { result ≡ zip2 atan2_of ys.entry xs.entry }
@@ -323,8 +324,8 @@ fn angles<const N: usize>(ys: [f32; N], xs: [f32; N]) -> [f32; N]
     angles_apart(ys, xs)
 }
 
-/// The angles of N points and of N others. The two series stand one behind the other, so that a processor begins the second while
-/// the first, the longest wait, goes on. N is a power of two, at most 64: a vector has as many lanes.
+/// The angles of N points and of N others. The two series stand one behind the other, so that a processor begins the
+/// second while the first, the longest wait, goes on. N is a power of two, at most 64: a vector has as many lanes.
 pub fn angles_of_both<const N: usize>(
     ys: [f32; N],
     xs: [f32; N],

@@ -6,5 +6,5 @@ use Rattle.ieee.proofs.narrow.Goals as goal
 pub float_to_bits-size : goal.float_to_bits-size
 float_to_bits-size c = equals_itself c.args.x c.if-x.true
 
-pub narrow_pattern-requires : goal.narrow_pattern-requires
-narrow_pattern-requires c = record { number = equals_itself c.args.x c.before.if-x.true; at_least = omega arith; below = omega arith }
+pub narrow_by_pattern-requires : goal.narrow_by_pattern-requires
+narrow_by_pattern-requires c = record { number = equals_itself c.args.x c.before.if-x.true; at_least = omega arith; below = omega arith }

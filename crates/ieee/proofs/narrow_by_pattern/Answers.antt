@@ -1,9 +1,9 @@
--- `ieee::narrow_pattern` meets its contract: the pattern that it makes is that of `narrow_of x` (`Narrowing.made`). Assumes nothing.
+-- `ieee::narrow_by_pattern` meets its contract: the pattern that it makes is that of `narrow_of x` (`Narrowing.made`). Assumes nothing.
 use Rattle.std.proofs.Common.{◌+◌, ◌*◌, ◌/◌, ◌^◌, T, sym, subst, arith}
 use lib.Ieee.{binary64, fits, to_bits}
 use Rattle.ieee.proofs.Narrowing.{Narrows, made}
-use Rattle.ieee.proofs.narrow_pattern.Goals as goal
-use Rattle.ieee.proofs.narrow_pattern.Goals.{After-rounded_pattern-p, Start}
+use Rattle.ieee.proofs.narrow_by_pattern.Goals as goal
+use Rattle.ieee.proofs.narrow_by_pattern.Goals.{After-rounded_pattern-p, Start}
 
 held : (c : Start) → T (fits binary64 c.args.x)
 held c = subst T (sym c.well_formed.0.1) tt
