@@ -40,7 +40,6 @@ struct Pairs<const N: usize> {
     c: [f64; N],
 }
 
-#[tactic(auto, unfolding(series::specs::Coefficients::terms, series::specs::Coefficients::alternating, crate::specs::Sine::sine_term))]
 fn sine_coefficients() -> [f64; 8]
     ensures { result ≡ terms sine_term 8 }
 {
@@ -48,7 +47,6 @@ fn sine_coefficients() -> [f64; 8]
     [f[1], -f[3], f[5], -f[7], f[9], -f[11], f[13], -f[15]]
 }
 
-#[tactic(auto, unfolding(series::specs::Coefficients::terms, series::specs::Coefficients::alternating, crate::specs::Sine::cosine_term))]
 fn cosine_coefficients() -> [f64; 8]
     ensures { result ≡ terms cosine_term 8 }
 {
@@ -149,7 +147,6 @@ pub fn tan(t: f32) -> f32
     ieee::narrow(p.s / p.c)
 }
 
-#[tactic(auto, unfolding(series::specs::Coefficients::terms, series::specs::Coefficients::alternating, crate::specs::Arctangent::arctangent_term))]
 fn arctangent_coefficients() -> [f64; 26]
     ensures { result ≡ terms arctangent_term 26 }
 {
