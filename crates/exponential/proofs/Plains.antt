@@ -20,7 +20,7 @@ use Rattle.exponential.specs.Power.{main_of, pow_of}
 use Rattle.exponential.specs.Plain.{IsInRange, moderate, plain_base, plain_exponent}
 use Rattle.exponential.proofs.Rules.{above_zero}
 
--- ---- what an order tells
+-- ---- what an order says
 
 not-back : (x y : Float) → T (lt x y) → lt y x ≡ false
 not-back x y h = is_false (lt y x) (not_T (lt y x) (λ g. lt_irrefl x (lt_trans x y x h g)))

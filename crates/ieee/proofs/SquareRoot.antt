@@ -12,7 +12,7 @@ use Rattle.ieee.specs.Sqrt.{isqrt, root_of, sqrt_of}
 use Rattle.ieee.proofs.Isqrt.{square_le, square-suc, isqrt_lo, isqrt_hi, root-le, root-lt}
 use Rattle.ieee.proofs.Rooting.{compare_same, compare_scale, root_at, root_of-is, root_of_same}
 
--- ---- twice the root, of which only the last place tells whether it goes on
+-- ---- twice the root, of which only the last place shows whether it goes on
 abbrev rest : ℕ → ℕ
 rest n = cond (eqb (isqrt n * isqrt n) n) 0 1
 
