@@ -14,7 +14,7 @@ use lib.Ieee.Back.{round_whole}
 use lib.Ieee.Exact.{HasValue}
 use lib.Ieee.Fits.{and_l, and_r, down_pos, nearest-le}
 use lib.Ieee.Nearest.{closest, nearest-ge}
-use Rattle.exponential.specs.Constants.{one}
+use Rattle.ieee.specs.Binary64.{one}
 use Rattle.exponential.specs.Exponential.{floor_of, within}
 use Rattle.exponential.proofs.Integers.{below_or_on, minus-le, minus-lt, minus-add, minus-down}
 use Rattle.exponential.proofs.Wholes.{whole_value, sub-whole, round-to-whole}

@@ -10,15 +10,17 @@ use lib.Ieee.Positive.{positive}
 use lib.Lanes.{zip2}
 use Rattle.std.proofs.lemmas.Float.{lt_irrefl, lt_trans, eq-not_lt, eq_flip, T_from_true}
 use Rattle.std.proofs.lemmas.List.Sums.{AllPass-from_list_all}
+use Rattle.std.specs.Float.{float_is_infinite}
 use Rattle.std.specs.List.{All, list_all}
 use Rattle.ieee.proofs.Tests.{both}
 use Rattle.lanes.proofs.Places.{all_and, all_pairs, zip2-agree}
 use Rattle.exponential.specs.Constants.{hundred, lowest}
-use Rattle.exponential.specs.Power.{zero, one, infinite, main_of, pow_of}
-use Rattle.exponential.specs.Plain.{moderate, plain_base, plain_exponent}
+use Rattle.ieee.specs.Binary32.{zero, one}
+use Rattle.exponential.specs.Power.{main_of, pow_of}
+use Rattle.exponential.specs.Plain.{IsInRange, moderate, plain_base, plain_exponent}
 use Rattle.exponential.proofs.Rules.{above_zero}
 
--- ---- what an order tells
+-- ---- what an order says
 
 not-back : (x y : Float) → T (lt x y) → lt y x ≡ false
 not-back x y h = is_false (lt y x) (not_T (lt y x) (λ g. lt_irrefl x (lt_trans x y x h g)))
@@ -35,8 +37,8 @@ positive_number x h = is_false (ne x x) (not_T (ne x x) (λ t. subst (λ (y : Fl
 number : (low x : Float) → T (lt low x) → ne x x ≡ false
 number low x h = is_false (ne x x) (not_T (ne x x) (λ t. above_nothing low (subst (λ (y : Float). T (lt low y)) (differs_from_itself x t) h)))
 
-within_infinities : (low x : Float) → T (lt low x) → T (lt x (inf false)) → infinite x ≡ false
-unfolding lt infinite
+within_infinities : (low x : Float) → T (lt low x) → T (lt x (inf false)) → float_is_infinite x ≡ false
+unfolding lt float_is_infinite
 within_infinities low nan a b = refl
 within_infinities nan (inf s) a b = absurd a
 within_infinities (inf true) (inf true) a b = absurd a
@@ -52,14 +54,14 @@ not-equal x y h = is_false (eq x y) h
 
 -- ---- the tests
 
-moderate-is : (t : Float) → moderate t ≡ true → (ne t t ≡ false) × (lt hundred t ≡ false) × (lt t lowest ≡ false)
+moderate-is : (t : Float) → moderate t ≡ true → IsInRange t
 unfolding moderate
 moderate-is t h =
     let each = both (lt lowest t) (lt t hundred) h in
     let low = T_from_true (lt lowest t) each.0 in
     (number lowest t low, not-back t hundred (T_from_true (lt t hundred) each.1), not-back lowest t low)
 
-base-is : (b : Float) → plain_base b ≡ true → (ne b b ≡ false) × (lt b zero ≡ false) × (eq b one ≡ false) × (eq b zero ≡ false) × (infinite b ≡ false)
+base-is : (b : Float) → plain_base b ≡ true → (ne b b ≡ false) × (lt b zero ≡ false) × (eq b one ≡ false) × (eq b zero ≡ false) × (float_is_infinite b ≡ false)
 unfolding plain_base
 base-is b h =
     let base = both (lt zero b && lt b (inf false)) (ne b one) h in
@@ -68,7 +70,7 @@ base-is b h =
     let no_zero : eq b zero ≡ false = is_false (eq b zero) (not_T (eq b zero) (λ t. eq-not_lt zero b (eq_flip b zero t) above)) in
     (number zero b above, not-back zero b above, not-equal b one (T_from_true (ne b one) base.1), no_zero, within_infinities zero b above (T_from_true (lt b (inf false)) within.1))
 
-exponent-is : (y : Float) → plain_exponent y ≡ true → (ne y y ≡ false) × (eq y zero ≡ false) × (infinite y ≡ false)
+exponent-is : (y : Float) → plain_exponent y ≡ true → (ne y y ≡ false) × (eq y zero ≡ false) × (float_is_infinite y ≡ false)
 unfolding plain_exponent
 exponent-is y h =
     let exponent = both (lt (inf true) y && lt y (inf false)) (ne y zero) h in
@@ -89,7 +91,7 @@ main-is b y h =
 
 -- ---- of all
 
-pub all_reduced : (ts : List Float) → list_all moderate ts ≡ true → All (λ (t : Float). (ne t t ≡ false) × (lt hundred t ≡ false) × (lt t lowest ≡ false)) ts
+pub all_reduced : (ts : List Float) → list_all moderate ts ≡ true → All IsInRange ts
 all_reduced ts e k d l = moderate-is _ (AllPass-from_list_all moderate ts e k d l)
 
 pub all_bases : (xs : List Float) → (list_all (λ (x : Float). lt zero x && lt x (inf false)) xs && list_all (λ (x : Float). ne x one) xs) ≡ list_all plain_base xs

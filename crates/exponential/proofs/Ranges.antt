@@ -12,7 +12,8 @@ use lib.Ieee.Exact.{HasValue}
 use lib.Ieee.Back.{round_whole}
 use lib.Ieee.Order.{round_mono}
 use Rattle.ieee.proofs.Signs.{Up, up_round}
-use Rattle.exponential.specs.Constants.{half, hundred, lowest, ln2}
+use Rattle.ieee.specs.Binary64.{half}
+use Rattle.exponential.specs.Constants.{hundred, lowest, ln2}
 use Rattle.exponential.specs.Exponential.{within}
 
 -- ---- a negative number's magnitude is rounded as the number is

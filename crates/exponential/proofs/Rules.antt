@@ -1,5 +1,5 @@
 -- What pow's rules leave for the last one: a base that is finite and above zero. Assumes nothing.
-use mathlib.Core.Path.{◌≡◌, refl, sym, ◌∙◌}
+use mathlib.Core.Path.{◌≡◌, sym, ◌∙◌}
 use mathlib.Core.Bool.{true, false, true≢false}
 use Prim.Native.Nat.{ℕ, zero, suc, ◌+◌, ◌*◌}
 use native.Mathlib.Nat.{zero-mul, zero-lt-suc}
@@ -10,21 +10,8 @@ use lib.IntN.{ℤ}
 use lib.Ieee.{Float, nan, inf, fin, of_bits, lt, eq, ne, up, down}
 use lib.Ieee.Compare.{nan_differs}
 use lib.Ieee.Positive.{positive}
-use Rattle.exponential.specs.Power.{zero as none, infinite}
-
--- one of the two infinities
-pub infinite-up : (x : Float) → eq x (inf false) ≡ true → infinite x ≡ true
-unfolding eq infinite
-infinite-up nan h = h
-infinite-up (inf s) h = refl
-infinite-up (fin s m e) h = h
-
-pub infinite-down : (x : Float) → eq x (inf false) ≡ false → infinite x ≡ eq x (inf true)
-unfolding eq infinite
-infinite-down nan h = refl
-infinite-down (inf true) h = refl
-infinite-down (inf false) h = absurd (true≢false h)
-infinite-down (fin s m e) h = refl
+use Rattle.std.specs.Float.{float_is_infinite}
+use Rattle.ieee.specs.Binary32.{zero as none}
 
 -- a negative number that is not below 0 is 0, and so is a zero
 minus-zero : (m : ℕ) (e : ℤ) → lt (fin true m e) none ≡ false → eq (fin true m e) none ≡ true
@@ -37,8 +24,8 @@ plus-zero : (e : ℤ) → eq (fin false 0 e) none ≡ true
 unfolding eq of_bits
 plus-zero e = rw (zero-mul (up e), zero-mul (down e))
 
-pub above_zero : (b : Float) → ne b b ≡ false → lt b none ≡ false → eq b none ≡ false → infinite b ≡ false → T (positive b)
-unfolding infinite
+pub above_zero : (b : Float) → ne b b ≡ false → lt b none ≡ false → eq b none ≡ false → float_is_infinite b ≡ false → T (positive b)
+unfolding float_is_infinite
 above_zero nan n l z i = absurd (true≢false (sym nan_differs ∙ n))
 above_zero (inf s) n l z i = absurd (true≢false i)
 above_zero (fin true m e) n l z i = absurd (true≢false (sym (minus-zero m e l) ∙ z))

@@ -16,7 +16,8 @@ use lib.Ieee.Fits.{and_l, and_r, div-fits, down_pos}
 use lib.Ieee.Order.{le_of_values}
 use lib.Ieee.Positive.{positive, values_of_le}
 use Rattle.ieee.proofs.Units.{bits_of_finite, no_nan-bits, read_back, round-no_nan}
-use Rattle.exponential.specs.Constants.{one_and_half, two}
+use Rattle.ieee.specs.Binary64.{two}
+use Rattle.exponential.specs.Constants.{one_and_half}
 use Rattle.exponential.specs.Logarithm.{fraction_of, exponent_of, ln_at, ln_of}
 use Rattle.exponential.proofs.Integers.{below_or_on, minus-le, minus-lt, minus_same, minus-add}
 use Rattle.exponential.proofs.Values.{value_at, fits-at}

@@ -1,9 +1,11 @@
--- Document 01's ln, of a finite number above 0. The steps are binary64, each rounded once, in the order written there. Definitions only.
+-- The natural logarithm of a finite number above 0. The steps are `f64`, each rounded once, in the order written
+-- here. Definitions only.
 use Rattle.std.specs.Prelude.{false, ℤ, pos, ◌+ℤ◌, Float, if◌then◌else◌}
 use Rattle.std.specs.Float.{nan, inf, fin, binary64}
-use Rattle.std.specs.Float.Ieee.{add, sub, mul, div, le, of_int, minus, size}
+use Rattle.std.specs.Float.Ieee.{le, of_int, minus, size}
+use Rattle.ieee.specs.Binary64.{◌⊕◌, ◌⊖◌, ◌⊗◌, ◌⊘◌, one, two}
 use Rattle.series.specs.Coefficients.{H, odd_reciprocal}
-use Rattle.exponential.specs.Constants.{one, one_and_half, two, ln2}
+use Rattle.exponential.specs.Constants.{one_and_half, ln2}
 
 -- u = f·2^e with 1 ≤ f < 2: u is m·2^d, and m has `size m` binary digits
 unfoldable pub fraction_of : Float → Float
@@ -16,16 +18,16 @@ exponent_of nan = pos 0
 exponent_of (inf s) = pos 0
 exponent_of (fin s m d) = d +ℤ minus (size m) 1
 
--- s = (f - 1)/(f + 1), z = s·s; e·LN2 + (2·s)·H(1/(2k + 1), z, 11)
+-- e·ln 2 + ln f, of which ln f is 2·(s + s³/3 + s⁵/5 + ..) with s = (f - 1)/(f + 1): twelve terms of it are summed
 unfoldable pub ln_at : Float → Float → Float
 ln_at f e =
-    let s = div binary64 (sub binary64 f one) (add binary64 f one) in
-    let z = mul binary64 s s in
-    add binary64 (mul binary64 e ln2) (mul binary64 (mul binary64 two s) (H odd_reciprocal z 11))
+    let s = (f ⊖ one) ⊘ (f ⊕ one) in
+    let z = s ⊗ s in
+    e ⊗ ln2 ⊕ (two ⊗ s) ⊗ H odd_reciprocal z 11
 
 -- if f ≥ 1.5, f is halved and e is one more
 unfoldable pub ln_of : Float → Float
 ln_of u =
     let f = fraction_of u in
     let e = exponent_of u in
-    if le one_and_half f then ln_at (div binary64 f two) (of_int binary64 (e +ℤ pos 1)) else ln_at f (of_int binary64 e)
+    if le one_and_half f then ln_at (f ⊘ two) (of_int binary64 (e +ℤ pos 1)) else ln_at f (of_int binary64 e)

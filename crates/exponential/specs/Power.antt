@@ -1,26 +1,15 @@
--- Document 01's pow: the first rule that applies. Definitions only.
-use Rattle.std.specs.Prelude.{Bool, true, false, ◌||◌, Float, if◌then◌else◌}
+-- The power of a base b and an exponent y: the first rule that applies. Definitions only.
+use Rattle.std.specs.Prelude.{◌||◌, false, Float, if◌then◌else◌}
 use Rattle.std.specs.Bool.{beq}
-use Rattle.std.specs.Float.{nan, inf, fin, binary32, binary64}
-use Rattle.std.specs.Float.Ieee.{of_bits, mul, lt, eq, ne}
+use Rattle.std.specs.Float.{nan, inf, binary64, float_is_infinite}
+use Rattle.std.specs.Float.Ieee.{mul, lt, eq, ne}
+use Rattle.ieee.specs.Binary32.{zero, one}
 use Rattle.ieee.specs.Basic.{widen_of}
 use Rattle.ieee.specs.Narrow.{narrow_of}
 use Rattle.exponential.specs.Logarithm.{ln_of}
 use Rattle.exponential.specs.Exponential.{exp_of}
 
--- 0 and 1
-abbrev pub zero : Float
-zero = of_bits binary32 0
-
-abbrev pub one : Float
-one = of_bits binary32 0x3f80_0000
-
-unfoldable pub infinite : Float → Bool
-infinite nan = false
-infinite (inf s) = true
-infinite (fin s m e) = false
-
--- N(exp(W(y)·ln(W(b))))
+-- exp(y·ln b), worked out in `f64` and narrowed
 unfoldable pub main_of : Float → Float → Float
 main_of b y = narrow_of (exp_of (mul binary64 (widen_of y) (ln_of (widen_of b))))
 
@@ -33,6 +22,6 @@ pow_of b y =
     else (if eq b one then one
     else (if eq y zero then one
     else (if eq b zero then (if lt zero y then zero else inf false)
-    else (if infinite b then (if lt zero y then inf false else zero)
-    else (if infinite y then (if beq (lt b one) (lt zero y) then zero else inf false)
+    else (if float_is_infinite b then (if lt zero y then inf false else zero)
+    else (if float_is_infinite y then (if beq (lt b one) (lt zero y) then zero else inf false)
     else main_of b y))))))

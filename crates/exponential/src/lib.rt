@@ -1,24 +1,24 @@
-//! The power function as document 01's float ground writes it out. The steps are f64, each rounded
-//! once in the order written there; only the result is narrowed.
+//! The power function. The steps are f64, each rounded once in the order that the definitions of specs/ have; only
+//! the result is narrowed.
 
 #![tactic(auto)]
 
 ghost use Rattle.std.specs.Prelude.{◌≡◌, map, All, Float, false, ◌&&◌, T, pos, ◌+ℤ◌, ◌<◌, ◌^◌, if◌then◌else◌};
 ghost use Rattle.std.specs.Float.Ieee.Positive.{positive};
 ghost use Rattle.std.specs.Float.{binary32, binary64, inf};
-ghost use Rattle.std.specs.Float.Ieee.{lt, ne, fits, of_int, minus};
+ghost use Rattle.std.specs.Float.Ieee.{ne, fits, of_int, minus};
 ghost use Rattle.ieee.specs.Basic.{widen_of};
-ghost use Rattle.exponential.specs.Constants.{hundred, lowest};
+ghost use Rattle.ieee.specs.Binary32.{zero};
 ghost use Rattle.exponential.specs.Logarithm.{ln_at, ln_of};
 ghost use Rattle.exponential.specs.Exponential.{floor_of, within, exp_of};
-ghost use Rattle.exponential.specs.Power.{zero, infinite, main_of, pow_of};
+ghost use Rattle.exponential.specs.Power.{main_of, pow_of};
 ghost use Rattle.std.specs.Simd.Lanes.{zip2};
 ghost use Rattle.std.specs.List.{list_all};
-ghost use Rattle.exponential.specs.Plain.{SplitAt, summed_of, moderate, scaled_of, plain_base, plain_exponent};
+ghost use Rattle.exponential.specs.Plain.{IsInRange, SplitAt, summed_of, moderate, scaled_of, plain_base, plain_exponent};
 ghost use Rattle.exponential.specs.declared.LogParts.{LogParts};
 ghost use Rattle.exponential.specs.declared.Reduced.{Reduced};
 
-const LN2: f64 = 0.6931471805599453;
+use std::f64::consts::LN_2;
 
 // 2^52 + 2^51 + 1023. A sum of it and a number within 1000 of 0 has no digits below 1: it is rounded
 // to a whole number, and its pattern ends in that number, 1023 more.
@@ -32,16 +32,16 @@ fn unbiased(b: u64) -> f64
     f64::from_bits(0x4330_0000_0000_0000 + b) - 4503599627371519.0
 }
 
-/// What ln is worked out from: u is f * 2^e, with f from 0.75 and below 1.5.
+// What ln is worked out from: u is f * 2^e, with f from 0.75 and below 1.5.
 #[derive(Clone, Copy)]
-pub struct Parts {
-    pub f: f64,
-    pub e: f64,
+struct Parts {
+    f: f64,
+    e: f64,
 }
 
-/// The digits of u's pattern are those of f, and its exponent is e + 1023. The first digit after the
-/// point says whether f is 1.5 at least; then f is halved by the exponent of its pattern.
-pub fn parts_of(u: f64) -> Parts
+// The digits of u's pattern are those of f, and its exponent is e + 1023. The first digit after the point says
+// whether f is 1.5 at least; then f is halved by the exponent of its pattern.
+fn parts_of(u: f64) -> Parts
     requires is_single { T (fits binary32 u) }
     requires is_positive { T (positive u) }
     ensures { ln_at result.f result.e ≡ ln_of u }
@@ -81,17 +81,17 @@ fn log_parts_of(b: f32) -> LogParts
     }
 }
 
-// The logarithms of N numbers that are taken apart, in step.
+// The logarithms of N numbers that are taken apart, side by side.
 fn summed<const N: usize>(p: [LogParts; N]) -> [f64; N]
     ensures { result ≡ map (λ (x : LogParts). summed_of x.s x.e) p.entry }
 {
     let c = series::odd_reciprocals();
     let h = series::horner(&c[..12], lanes::each(p, |p| p.s * p.s));
-    lanes::pairwise(p, h, |p, h| p.e * LN2 + (2.0 * p.s) * h)
+    lanes::pairwise(p, h, |p, h| p.e * LN_2 + (2.0 * p.s) * h)
 }
 
-// The logarithms of N numbers, in step. The bound on N, here and in each function below that has it: N records of two f64 fit in
-// memory, which the types of the arrays of floats do not say.
+// The logarithms of N numbers, side by side. The bound on N, here and in each function below that has it: N records
+// of two f64 fit in memory, which the types of the arrays of floats do not say.
 fn logarithms<const N: usize>(b: [f32; N]) -> [f64; N]
     requires few { N < 2 ^ 59 }
     requires above_zero { All (λ (x : Float). T (positive x)) b }
@@ -100,12 +100,14 @@ fn logarithms<const N: usize>(b: [f32; N]) -> [f64; N]
     summed(lanes::each(b, log_parts_of))
 }
 
-// The same of N numbers and of N others. The two series stand one behind the other, so that a processor begins the second while
-// the first, the longest wait, goes on.
+// The same of N numbers and of N others. The two series stand one behind the other, so that a processor begins the
+// second while the first, the longest wait, goes on.
 fn logarithms_of_both<const N: usize>(b: [f32; N], c: [f32; N]) -> ([f64; N], [f64; N])
     requires few { N < 2 ^ 59 }
-    requires above_zero { (All (λ (x : Float). T (positive x)) b) × (All (λ (x : Float). T (positive x)) c) }
-    ensures { result ≡ (map (λ (x : Float). ln_of (widen_of x)) b.entry, map (λ (x : Float). ln_of (widen_of x)) c.entry) }
+    requires above_zero { All (λ (x : Float). T (positive x)) b }
+    requires others_above_zero { All (λ (x : Float). T (positive x)) c }
+    ensures { result
+        ≡ (map (λ (x : Float). ln_of (widen_of x)) b.entry, map (λ (x : Float). ln_of (widen_of x)) c.entry) }
 {
     let p = lanes::each(b, log_parts_of);
     let q = lanes::each(c, log_parts_of);
@@ -125,25 +127,25 @@ fn biased_floor(q: f64) -> f64
     w
 }
 
-/// What exp is worked out from: t is r + g * LN2, and power is 2^g.
+// What exp is worked out from: t is r + g * LN_2, and power is 2^g.
 #[derive(Clone, Copy)]
-pub struct Reduced {
-    pub r: f64,
-    pub power: f64,
+struct Reduced {
+    r: f64,
+    power: f64,
 }
 
-pub fn reduce(t: f64) -> Reduced
-    requires { (ne t t ≡ false) × (lt hundred t ≡ false) × (lt t lowest ≡ false) }
+fn reduce(t: f64) -> Reduced
+    requires { IsInRange t }
     ensures { scaled_of result.r result.power ≡ exp_of t }
 {
-    let w = biased_floor(t / LN2 + 0.5);
+    let w = biased_floor(t / LN_2 + 0.5);
     Reduced {
-        r: t - (w - BIAS) * LN2,
+        r: t - (w - BIAS) * LN_2,
         power: f64::from_bits(f64::to_bits(w) % 0x800 * 0x10_0000_0000_0000),
     }
 }
 
-// The exponentials of N numbers that are reduced, in step.
+// The exponentials of N numbers that are reduced, side by side.
 fn scaled<const N: usize>(p: [Reduced; N]) -> [f64; N]
     ensures { result ≡ map (λ (x : Reduced). scaled_of x.r x.power) p.entry }
 {
@@ -153,7 +155,7 @@ fn scaled<const N: usize>(p: [Reduced; N]) -> [f64; N]
 }
 
 #[tactic(auto, using(ieee::proofs::Specials::nan64_is, ieee::proofs::Specials::inf64_is), unfolding(crate::specs::Exponential::exp_of))]
-pub fn exp(t: f64) -> f64
+fn exp(t: f64) -> f64
     ensures { result ≡ exp_of t }
 {
     if t != t {
@@ -184,7 +186,7 @@ fn exponentials_apart<const N: usize>(t: [f64; N]) -> [f64; N]
     lanes::each(t, exp)
 }
 
-// In step where each is moderate.
+// Side by side where each is moderate.
 fn exponentials<const N: usize>(t: [f64; N]) -> [f64; N]
     requires { N < 2 ^ 59 }
     ensures { result ≡ map exp_of t.entry }
@@ -207,12 +209,6 @@ fn exponentials_of_both<const N: usize>(t: [f64; N], u: [f64; N]) -> ([f64; N], 
     (exponentials_apart(t), exponentials_apart(u))
 }
 
-fn is_infinite(x: f32) -> bool
-    ensures { result ≡ infinite x }
-{
-    x == 1.0 / 0.0 || x == -1.0 / 0.0
-}
-
 #[tactic(auto, using(ieee::proofs::Specials::inf32_is))]
 fn zero_or_infinity(is_zero: bool) -> f32
     ensures { result ≡ (if is_zero then zero else inf false) }
@@ -224,111 +220,127 @@ fn zero_or_infinity(is_zero: bool) -> f32
 }
 
 // The last rule of pow.
-fn main_powers<const N: usize>(b: [f32; N], y: [f32; N]) -> [f32; N]
+fn main_powers<const N: usize>(bases: [f32; N], exponents: [f32; N]) -> [f32; N]
     requires few { N < 2 ^ 59 }
-    requires above_zero { All (λ (x : Float). T (positive x)) b }
-    requires numbers { All (λ (x : Float). ne x x ≡ false) y }
-    ensures { result ≡ zip2 main_of b.entry y.entry }
+    requires above_zero { All (λ (x : Float). T (positive x)) bases }
+    requires numbers { All (λ (x : Float). ne x x ≡ false) exponents }
+    ensures { result ≡ zip2 main_of bases.entry exponents.entry }
 {
-    let l = logarithms(b);
-    lanes::narrow(exponentials(lanes::pairwise(l, lanes::each(y, wide), |l, y| y * l)))
+    let l = logarithms(bases);
+    let y = lanes::each(exponents, wide);
+    lanes::narrow(exponentials(lanes::pairwise(l, y, |l, y| y * l)))
 }
 
 // The last rule of pow, twice.
 fn main_powers_of_both<const N: usize>(
-    b: [f32; N],
-    y: [f32; N],
-    c: [f32; N],
-    x: [f32; N],
+    bases: [f32; N],
+    exponents: [f32; N],
+    other_bases: [f32; N],
+    other_exponents: [f32; N],
 ) -> ([f32; N], [f32; N])
     requires few { N < 2 ^ 59 }
-    requires above_zero { (All (λ (x : Float). T (positive x)) b) × (All (λ (x : Float). T (positive x)) c) }
-    requires numbers { (All (λ (x : Float). ne x x ≡ false) y) × (All (λ (x : Float). ne x x ≡ false) x) }
-    ensures { result ≡ (zip2 main_of b.entry y.entry, zip2 main_of c.entry x.entry) }
+    requires above_zero { All (λ (x : Float). T (positive x)) bases }
+    requires others_above_zero { All (λ (x : Float). T (positive x)) other_bases }
+    requires numbers { All (λ (x : Float). ne x x ≡ false) exponents }
+    requires other_numbers { All (λ (x : Float). ne x x ≡ false) other_exponents }
+    ensures { result
+        ≡ (zip2 main_of bases.entry exponents.entry, zip2 main_of other_bases.entry other_exponents.entry) }
 {
-    let (k, l) = logarithms_of_both(b, c);
-    let t = lanes::pairwise(k, lanes::each(y, wide), |k, y| y * k);
-    let u = lanes::pairwise(l, lanes::each(x, wide), |l, x| x * l);
+    let (k, l) = logarithms_of_both(bases, other_bases);
+    let t = lanes::pairwise(k, lanes::each(exponents, wide), |k, y| y * k);
+    let u = lanes::pairwise(l, lanes::each(other_exponents, wide), |l, x| x * l);
     let (e, f) = exponentials_of_both(t, u);
     (lanes::narrow(e), lanes::narrow(f))
 }
 
+/// base to the power of exponent. NaN where one of the two is a NaN, and for a base below 0.
 #[tactic(auto, using(ieee::proofs::Specials::nan32_is), unfolding(crate::specs::Power::pow_of))]
-pub fn pow(b: f32, y: f32) -> f32
-    ensures { result ≡ pow_of b y }
+pub fn pow(base: f32, exponent: f32) -> f32
+    ensures { result ≡ pow_of base exponent }
 {
-    if b != b {
+    if base != base {
         return 0.0 / 0.0;
     }
-    if y != y {
+    if exponent != exponent {
         return 0.0 / 0.0;
     }
-    if b < 0.0 {
+    if base < 0.0 {
         return 0.0 / 0.0;
     }
-    if b == 1.0 {
+    if base == 1.0 {
         return 1.0f32;
     }
-    if y == 0.0 {
+    if exponent == 0.0 {
         return 1.0f32;
     }
-    if b == 0.0 {
-        return zero_or_infinity(y > 0.0);
+    if base == 0.0 {
+        return zero_or_infinity(exponent > 0.0);
     }
-    if is_infinite(b) {
-        return zero_or_infinity(!(y > 0.0));
+    if base.is_infinite() {
+        return zero_or_infinity(!(exponent > 0.0));
     }
-    if is_infinite(y) {
-        return zero_or_infinity((b < 1.0) == (y > 0.0));
+    if exponent.is_infinite() {
+        return zero_or_infinity((base < 1.0) == (exponent > 0.0));
     }
-    let [p] = main_powers([b], [y]);
+    let [p] = main_powers([base], [exponent]);
     p
 }
 
 // Whether of these none of pow's rules but the last applies.
-fn all_plain<const N: usize>(b: [f32; N], y: [f32; N]) -> bool
-    ensures { result ≡ (list_all plain_base b.entry && list_all plain_exponent y.entry) }
+fn all_plain<const N: usize>(bases: [f32; N], exponents: [f32; N]) -> bool
+    ensures { result
+        ≡ (list_all plain_base bases.entry && list_all plain_exponent exponents.entry) }
 {
-    let base = lanes::all_between(b, 0.0, 1.0 / 0.0) & lanes::all_differ(b, 1.0);
-    let exponent = lanes::all_between(y, -1.0 / 0.0, 1.0 / 0.0) & lanes::all_differ(y, 0.0);
+    let base = lanes::all_between(bases, 0.0, 1.0 / 0.0) & lanes::all_differ(bases, 1.0);
+    let exponent = lanes::all_between(exponents, -1.0 / 0.0, 1.0 / 0.0)
+        & lanes::all_differ(exponents, 0.0);
     base & exponent
 }
 
 #[cold]
 #[inline(never)]
-fn powers_apart<const N: usize>(b: [f32; N], y: [f32; N]) -> [f32; N]
-    ensures { result ≡ zip2 pow_of b.entry y.entry }
+fn powers_apart<const N: usize>(bases: [f32; N], exponents: [f32; N]) -> [f32; N]
+    ensures { result ≡ zip2 pow_of bases.entry exponents.entry }
 {
-    lanes::pairwise(b, y, pow)
+    lanes::pairwise(bases, exponents, pow)
 }
 
-/// The powers of N bases, each by the exponent at its place. They go in step where none is a special case, so that none waits for another.
-pub fn powers<const N: usize>(b: [f32; N], y: [f32; N]) -> [f32; N]
+/// The powers of N bases, each by the exponent at its place. They go side by side where none is a special case, so
+/// that none waits for another. N is a power of two, at most 64: a vector has as many lanes.
+pub fn powers<const N: usize>(bases: [f32; N], exponents: [f32; N]) -> [f32; N]
     requires { N < 2 ^ 59 }
-    ensures { result ≡ zip2 pow_of b.entry y.entry }
+    ensures { result ≡ zip2 pow_of bases.entry exponents.entry }
 {
-    if all_plain(b, y) {
-        return main_powers(b, y);
+    if all_plain(bases, exponents) {
+        return main_powers(bases, exponents);
     }
-    powers_apart(b, y)
+    powers_apart(bases, exponents)
 }
 
-/// The powers of N bases and of N others. One or two go in step with as many others where none is a special case, the series of
-/// the one behind those of the other: they alone are a chain that leaves a processor idle, which more of them keep busy.
+/// `powers` of N bases and of N others. One or two go side by side with as many others where none is a special case,
+/// the series of the one behind those of the other: they alone are a chain that leaves a processor idle, which more
+/// of them keep busy.
 pub fn powers_of_both<const N: usize>(
-    b: [f32; N],
-    y: [f32; N],
-    c: [f32; N],
-    x: [f32; N],
+    bases: [f32; N],
+    exponents: [f32; N],
+    other_bases: [f32; N],
+    other_exponents: [f32; N],
 ) -> ([f32; N], [f32; N])
     requires { N < 2 ^ 59 }
-    ensures { result ≡ (zip2 pow_of b.entry y.entry, zip2 pow_of c.entry x.entry) }
+    ensures { result
+        ≡ (zip2 pow_of bases.entry exponents.entry, zip2 pow_of other_bases.entry other_exponents.entry) }
 {
     if N > 2 {
-        return (powers(b, y), powers(c, x));
+        return (
+            powers(bases, exponents),
+            powers(other_bases, other_exponents),
+        );
     }
-    if all_plain(b, y) & all_plain(c, x) {
-        return main_powers_of_both(b, y, c, x);
+    if all_plain(bases, exponents) & all_plain(other_bases, other_exponents) {
+        return main_powers_of_both(bases, exponents, other_bases, other_exponents);
     }
-    (powers(b, y), powers(c, x))
+    (
+        powers(bases, exponents),
+        powers(other_bases, other_exponents),
+    )
 }

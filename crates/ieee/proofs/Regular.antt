@@ -1,4 +1,4 @@
--- What `regular` tells of a number: its size, and so the exponent in its pattern. Assumes nothing.
+-- What `regular` says of a number: its size, and so the exponent in its pattern. Assumes nothing.
 use Rattle.std.proofs.Common.{◌≡◌, ℕ, zero, suc, ◌+◌, ◌*◌, ◌/◌, ◌%◌, ◌^◌, ◌<◌, ◌≤◌, Bool, true, false, cond, not, T, eqb, leb, pos, negsuc, sym, refl, subst, le_trans, le_of_eq, lt_of_lt_of_le, le_of_lt, mul-le-mul, mul-lt-mul_of_pos_right, lt_of_not-le, mul-one, not-le_of_lt, arith, ltb→lt, pow_pos, pow_mono, shl_lt}
 use lib.Ieee.{Float, nan, inf, fin, binary64, up, down, odd, lt, fits, is_nan, to_bits, of_bits, of_fields}
 use lib.Ieee.Exact.{HasValue, odd_sign}

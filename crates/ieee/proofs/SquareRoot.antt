@@ -5,15 +5,14 @@ use Prim.Native.Nat.{compare}
 use native.Mathlib.Nat.{div-div-eq-div-mul, pow-succ'}
 use lib.Dec.{eqb_refl}
 use lib.Arith.{lt_of_le-ne}
-use lib.Ieee.{Float, nan, inf, fin, Format, binary32, prec, emax, low, up, down, size, nearest, units, round, root_below, root_twice, sqrt, fits}
+use lib.Ieee.{Float, nan, inf, fin, Format, binary32, prec, emax, low, up, down, size, nearest, units, round, root_twice, sqrt, fits}
 use lib.Ieee.Fits.{core, round_is, down_pos, and_l, and_r}
 use lib.Ieee.Nearest.{div_same}
-use lib.Ieee.Root.{whole_part}
 use Rattle.ieee.specs.Sqrt.{isqrt, root_of, sqrt_of}
-use Rattle.ieee.proofs.Isqrt.{square_le, square-suc, isqrt_lo, isqrt_hi, isqrt_unique, root-le, root-lt}
+use Rattle.ieee.proofs.Isqrt.{square_le, square-suc, isqrt_lo, isqrt_hi, root-le, root-lt}
 use Rattle.ieee.proofs.Rooting.{compare_same, compare_scale, root_at, root_of-is, root_of_same}
 
--- ---- twice the root, of which only the last place tells whether it goes on
+-- ---- twice the root, of which only the last place shows whether it goes on
 abbrev rest : ℕ → ℕ
 rest n = cond (eqb (isqrt n * isqrt n) n) 0 1
 
@@ -21,15 +20,9 @@ at-most-one : (b : Bool) → cond b 0 1 ≤ 1
 at-most-one true = omega arith
 at-most-one false = omega arith
 
-whole-is : (n : ℕ) → root_below (size n) n ≡ isqrt n
-whole-is n = sym (isqrt_unique n (root_below (size n) n) (whole_part n).0 (lt_of_lt_of_le (whole_part n).1 (le_of_eq (next (root_below (size n) n)))))
-  where
-    next : (r : ℕ) → (r + 1) * (r + 1) ≡ suc r * suc r
-    next r = omega arith
-
 twice-is : (n : ℕ) → root_twice n ≡ 2 * isqrt n + rest n
-unfolding root_twice
-twice-is n = ap (λ (r : ℕ). 2 * r + cond (eqb (r * r) n) 0 1) (whole-is n)
+unfolding root_twice isqrt
+twice-is n = refl
 
 square-lt : {a b : ℕ} → a < b → a * a < b * b
 square-lt {a} {b} h = lt_of_lt_of_le (let s = square-suc a in omega arith) (square_le h)

@@ -1,9 +1,11 @@
--- The simple operations of document 01's float ground, over both formats: `Float` holds the values of either, so a definition serves each width. Definitions only.
+-- The simple operations, over both formats: `Float` holds the values of either, so a definition serves each width.
+-- Definitions only.
 use Rattle.std.specs.Prelude.{false, Float, if◌then◌else◌}
-use Rattle.std.specs.Float.{nan, inf, fin}
+use Rattle.std.specs.Float.{nan, inf, fin, float_clamp}
 use Rattle.std.specs.Float.Ieee.{lt, ne}
 
--- W: a value of the narrower format is a value of the wider one, the same number with the same sign; an infinity and a NaN stay what they are.
+-- A value of the narrower format is a value of the wider one, the same number with the same sign; an infinity and a
+-- NaN stay what they are.
 unfoldable pub widen_of : Float → Float
 widen_of x = x
 
@@ -23,4 +25,4 @@ max_of a b = if ne a a then b else (if lt a b then b else a)
 
 -- lo where x is below it, hi where x is above it, else x itself: a NaN stays a NaN
 unfoldable pub clamp_of : Float → Float → Float → Float
-clamp_of x lo hi = if lt x lo then lo else (if lt hi x then hi else x)
+clamp_of = float_clamp

@@ -1,5 +1,5 @@
--- The Rust's + - * / on two `f32`, written ⊕ ⊖ ⊗ ⊘ with the Rust's precedence: each rounds once, to binary32; and the constants that
--- several files name. Definitions only.
+-- Rust's + - * / on two `f32`, written ⊕ ⊖ ⊗ ⊘ with Rust's precedence: each rounds once, to binary32; and the
+-- constants that several files name. Definitions only.
 use Rattle.std.specs.Prelude.{Float}
 use Rattle.std.specs.Float.{binary32}
 use Rattle.std.specs.Float.Ieee.{of_bits, add, sub, mul, div}

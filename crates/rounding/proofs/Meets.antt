@@ -12,11 +12,12 @@ use lib.Ieee.Fits.{two, reach, down_pos, fits_widens, round-fits}
 use lib.Ieee.Exact.{round_exact}
 use lib.Ieee.Positive.{num, den, positive, positive-finite}
 use lib.Ieee.Scale.{finite}
+use Rattle.std.specs.Float.{round_to_format}
 use Rattle.ieee.specs.Basic.{widen_of}
 use Rattle.ieee.specs.Narrow.{narrow_of}
 use Rattle.ieee.specs.Sqrt.{sqrt_of}
 use Rattle.rounding.specs.Meaning.{fraction, root, below, sign, last, largest, Rounded}
-use Rattle.rounding.specs.Meets.{Meets}
+use Rattle.rounding.specs.Meets.{OperationsMeetIeee754}
 use Rattle.rounding.proofs.Distance.{distance_of_closer, closer_of_distance}
 use Rattle.rounding.proofs.Limit.{largest-held, largest-above}
 use Rattle.rounding.proofs.Values.{in_units, fits_under, units_under, one_value, rescaled}
@@ -24,7 +25,7 @@ use Rattle.rounding.proofs.Rounds.{round_rounded, rounded_is_round, root_of_roun
 
 -- ---- narrowing
 narrow_rounded : (x : Float) → T (finite x) → Rounded binary32 (sign x) (fraction (num x) (den x)) (narrow_of x)
-unfolding narrow_of
+unfolding narrow_of round_to_format
 narrow_rounded nan t = absurd t
 narrow_rounded (inf s) t = absurd t
 narrow_rounded (fin s m e) t = round_rounded binary32 (m * up e) (down e) (down_pos e) s
@@ -40,7 +41,7 @@ round_own f s m e h =
     (refl, d.3)
 
 widen_narrow : (x : Float) → T (fits binary32 x) → narrow_of (widen_of x) ≡ x
-unfolding narrow_of widen_of
+unfolding narrow_of round_to_format widen_of
 widen_narrow nan h = refl
 widen_narrow (inf s) h = refl
 widen_narrow (fin s m e) h = round_own binary32 s m e h
@@ -80,7 +81,7 @@ sqrt_below_zero f (fin true zero e) t = absurd (let a = ltb→lt 0 (0 * up e * 1
 sqrt_below_zero f (fin true (suc m) e) t = refl
 sqrt_below_zero f (fin false m e) t = absurd (let a = ltb→lt (m * up e * 1) (0 * down e) t in let c = zero-mul (down e) in omega arith)
 
-pub meets : Meets
+pub meets : OperationsMeetIeee754
 meets = record {
   closer_distance = λ n d D p a q b c. (distance_of_closer n d a b c D p q, closer_of_distance n d a b c D p q);
   largest-held = largest-held;
@@ -90,8 +91,8 @@ meets = record {
   root_rounded = root_of_rounded;
   rounded_is_root = λ f n d x D. rounded_is_root_of f n d D x;
   narrow_rounded = narrow_rounded;
-  narrow_infinity = λ s. unfold narrow_of in refl;
-  narrow_nan = unfold narrow_of in refl;
+  narrow_infinity = λ s. unfold narrow_of round_to_format in refl;
+  narrow_nan = unfold narrow_of round_to_format in refl;
   widen_same = λ x. unfold widen_of in refl;
   widen_fits = λ x h. unfold widen_of in fits_widens x h;
   widen_narrow = widen_narrow;

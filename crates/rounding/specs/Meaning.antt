@@ -1,5 +1,7 @@
--- What it means that a value is a number rounded to a format, the format being a variable: of the format's values none is nearer, and of two as near it is the one that ends in an even digit.
--- There are no real numbers here: a number is known by how it compares with fractions, every denominator multiplied out. Definitions only. Assumes nothing.
+-- What it means that a value is a number rounded to a format, the format being a variable: of the format's values
+-- none is nearer, and of two as near it is the one that ends in an even digit. There are no real numbers here: a
+-- number is known by how it compares with fractions, every denominator multiplied out. Definitions only. Assumes
+-- nothing.
 use Rattle.std.specs.Prelude.{◌≡◌, ℕ, suc, ◌+◌, ◌-◌, ◌*◌, ◌%◌, ◌^◌, ◌≤◌, ◌<◌, Bool, true, false, T, Float}
 use Rattle.std.specs.Float.{nan, inf, fin, Format}
 use Rattle.std.specs.Float.Ieee.{prec, emax, unlike, fits, to_bits, ne}
@@ -8,7 +10,8 @@ use Rattle.std.specs.Float.Ieee.Scale.{finite}
 
 -- ---- numbers
 
--- A number v that is not negative: it compares with the fraction a / c, for a c above 0, as `left c` does with `right a`.
+-- A number v that is not negative: it compares with the fraction a / c, for a c above 0, as `left c` does with
+-- `right a`.
 pub record Number : Type 0 where
   pub left : ℕ → ℕ
   pub right : ℕ → ℕ
@@ -35,7 +38,8 @@ below v a c = v.left c < v.right a
 
 -- ---- the nearer of two
 
--- One number is no farther from v than another is: a / c, or -a / c where p is true, than b / c, or -b / c where q is true.
+-- One number is no farther from v than another is: a / c, or -a / c where p is true, than b / c, or -b / c where q is
+-- true.
 unfoldable pub Closer : Number → Bool → ℕ → Bool → ℕ → ℕ → Type 0
 -- on v's side of zero: v is on the nearer one's side of the middle, which is (a + b) / (2 * c)
 Closer v false a false b c = (a < b → at_most v (a + b) (2 * c)) × (b < a → at_least v (a + b) (2 * c))
@@ -46,7 +50,8 @@ Closer v true a false b c = 0 < a + b → (a ≤ b) × at_most v (b - a) (2 * c)
 -- v + a / c ≤ v + b / c
 Closer v true a true b c = a ≤ b
 
--- How far x and y are apart, or x and -y where q is true. Where v is a fraction, `Closer` is the order of two such distances: `closer_distance` of Meets.antt.
+-- How far x and y are apart, or x and -y where q is true. Where v is a fraction, `Closer` is the order of two such
+-- distances: `closer_distance` of Meets.antt.
 abbrev pub distance : Bool → ℕ → ℕ → ℕ
 distance false x y = x - y + (y - x)
 distance true x y = x + y
@@ -57,7 +62,8 @@ sign nan = false
 sign (inf s) = s
 sign (fin s m e) = s
 
--- Of two finite values, x is no farther than y is from the number with the size v and the sign s. p and q say which of them has the other sign.
+-- Of two finite values, x is no farther than y is from the number with the size v and the sign s. p and q say which
+-- of them has the other sign.
 unfoldable pub Nearer : Number → Bool → Float → Float → Type 0
 Nearer v s x y =
     let p = unlike s (sign x) in
@@ -78,10 +84,12 @@ pub record Rounded (f : Format) (s : Bool) (v : Number) (x : Float) : Type 0 whe
   -- x is a value of the format and has the sign s, also where it is a zero
   pub held : T (fits f x)
   pub signed : sign x ≡ s
-  -- from the largest finite value and half a unit of its last digit on, that tie included, x is an infinity; below that it is finite, so it is never a NaN
+  -- from the largest finite value and half a unit of its last digit on, that tie included, x is an infinity; below
+  -- that it is finite, so it is never a NaN
   pub infinite : at_least v (2 * largest f + last f) 2 → x ≡ inf s
   pub bounded : below v (2 * largest f + last f) 2 → T (finite x)
   -- no finite value of the format, of either sign, is nearer than a finite x
   pub nearest : T (finite x) → (y : Float) → T (fits f y) → T (finite y) → Nearer v s x y
   -- where another number of the format is as near, x ends in an even digit: the lowest bit of its pattern is 0
-  pub even : T (finite x) → (y : Float) → T (fits f y) → T (finite y) → T (ne x y) → Nearer v s y x → to_bits f x % 2 ≡ 0
+  pub even :
+      T (finite x) → (y : Float) → T (fits f y) → T (finite y) → T (ne x y) → Nearer v s y x → to_bits f x % 2 ≡ 0

@@ -1,4 +1,5 @@
--- How "meets IEEE 754" is said of the width changes and the square root: this record is the list, and proofs/Meets.antt proves it. Assumes nothing.
+-- What IEEE 754 says of the width changes and the square root: the list that `operations_meet_ieee_754` promises.
+-- Definitions only. Assumes nothing.
 use Rattle.std.specs.Prelude.{◌≡◌, ◌↔◌, ℕ, ◌*◌, ◌≤◌, ◌<◌, Bool, false, pos, T, Float}
 use Rattle.std.specs.Float.{nan, inf, fin, Format, binary32, binary64}
 use Rattle.std.specs.Float.Ieee.{round, fits, lt}
@@ -10,22 +11,31 @@ use Rattle.ieee.specs.Narrow.{narrow_of}
 use Rattle.ieee.specs.Sqrt.{root_of, sqrt_of}
 use Rattle.rounding.specs.Meaning.{fraction, root, Closer, distance, sign, largest, Rounded}
 
-pub record Meets : Type 0 where
-  -- ---- Two definitions mean what they are called. `Closer`, of a fraction n / d: the one distance, times c * d, is at most the other.
-  pub closer_distance : (n d : ℕ) → 0 < d → (p : Bool) (a : ℕ) (q : Bool) (b c : ℕ) → Closer (fraction n d) p a q b c ↔ (distance p (n * c) (a * d) ≤ distance q (n * c) (b * d))
+pub record OperationsMeetIeee754 : Type 0 where
+  -- ---- Two definitions mean what they are called. `Closer`, of a fraction n / d: the one distance, times c * d, is at
+  -- most the other.
+  pub closer_distance :
+      (n d : ℕ) → 0 < d → (p : Bool) (a : ℕ) (q : Bool) (b c : ℕ)
+      → Closer (fraction n d) p a q b c ↔ (distance p (n * c) (a * d) ≤ distance q (n * c) (b * d))
   -- `largest`: a value of the format has it, and no finite one is above it
   pub largest-held : (f : Format) → (y : Float) × T (fits f y) × HasValue y false (largest f) 1
   pub largest-above : (f : Format) (y : Float) → T (fits f y) → T (finite y) → num y ≤ largest f * den y
-  -- ---- Rounding, over either format: the library's `round`, in which its operators end, and the root's definition. The rounded value is the only one.
+  -- ---- Rounding, over either format: the library's `round`, in which its operators end, and the root's definition.
+  -- The rounded value is the only one.
   pub round_rounded : (f : Format) (s : Bool) (n d : ℕ) → 0 < d → Rounded f s (fraction n d) (round f s n d)
-  pub rounded_is_round : (f : Format) (s : Bool) (n d : ℕ) (x : Float) → 0 < d → Rounded f s (fraction n d) x → x ≡ round f s n d
+  pub rounded_is_round :
+      (f : Format) (s : Bool) (n d : ℕ) (x : Float) → 0 < d → Rounded f s (fraction n d) x → x ≡ round f s n d
   pub root_rounded : (f : Format) (n d : ℕ) → 0 < d → Rounded f false (root n d) (root_of f n d)
-  pub rounded_is_root : (f : Format) (n d : ℕ) (x : Float) → 0 < d → Rounded f false (root n d) x → x ≡ root_of f n d
-  -- ---- To the narrower format: a finite value is rounded and keeps its sign, an infinity and a NaN stay what they are.
-  pub narrow_rounded : (x : Float) → T (finite x) → Rounded binary32 (sign x) (fraction (num x) (den x)) (narrow_of x)
+  pub rounded_is_root :
+      (f : Format) (n d : ℕ) (x : Float) → 0 < d → Rounded f false (root n d) x → x ≡ root_of f n d
+  -- ---- To the narrower format: a finite value is rounded and keeps its sign, an infinity and a NaN stay what they
+  -- are.
+  pub narrow_rounded :
+      (x : Float) → T (finite x) → Rounded binary32 (sign x) (fraction (num x) (den x)) (narrow_of x)
   pub narrow_infinity : (s : Bool) → narrow_of (inf s) ≡ inf s
   pub narrow_nan : narrow_of nan ≡ nan
-  -- ---- To the wider format: the same number with the same sign, also an infinity and a NaN, and narrowing brings it back.
+  -- ---- To the wider format: the same number with the same sign, also an infinity and a NaN, and narrowing brings it
+  -- back.
   pub widen_same : (x : Float) → widen_of x ≡ x
   pub widen_fits : (x : Float) → T (fits binary32 x) → T (fits binary64 (widen_of x))
   pub widen_narrow : (x : Float) → T (fits binary32 x) → narrow_of (widen_of x) ≡ x

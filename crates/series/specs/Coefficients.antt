@@ -1,4 +1,5 @@
--- The coefficients of document 01's series: two families of rounded quotients, and its H, which is Horner's scheme on the first of a family. Definitions only.
+-- The coefficients of the series: two families of rounded quotients, and H, Horner's scheme on the first of a family.
+-- Definitions only.
 use Rattle.std.specs.Prelude.{ℕ, zero, suc, ◌+◌, ◌*◌, ◌%◌, List, [], ◌∷◌, pos, Float, if◌then◌else◌, ◌==◌}
 use Rattle.std.specs.Float.{binary64}
 use Rattle.std.specs.Float.Ieee.{neg, div, of_int}

@@ -1,5 +1,4 @@
-//! Horner's scheme, and the two families of coefficients that the power series of document 01's float
-//! ground draw on.
+//! Horner's scheme, and the two families of coefficients that the power series of the elementary functions draw on.
 
 #![tactic(auto)]
 
@@ -10,8 +9,9 @@ ghost use Rattle.series.specs.Coefficients.{terms, odd_reciprocal, factorial_rec
 
 use std::simd::prelude::*;
 
-/// The values at N places of the polynomial with the coefficients cs, from the constant term up. They go in step, as vectors: of an
-/// array the compiler makes one place after another, and within a place each step waits for the one before.
+/// The values at N places of the polynomial with the coefficients cs, from the constant term up. They go side by
+/// side, as vectors, so N is a power of two, at most 64: of an array the compiler makes one place after another, and
+/// within a place each step waits for the one before.
 pub fn horner<const N: usize>(cs: &[f64], z: [f64; N]) -> [f64; N]
     ensures { result ≡ map (horner_of binary64 cs.now) z.entry }
 {

@@ -1,60 +1,60 @@
-//! Sine, cosine, tangent and the angle of a point, as document 01's float ground writes them out. The
-//! steps are f64, each rounded once in the order written there; only the results are narrowed.
+//! Sine, cosine, tangent and the angle of a point. The steps are f64, each rounded once in the order that the
+//! definitions of specs/ have; only the results are narrowed.
 
 #![tactic(auto)]
 
 ghost use Rattle.std.specs.Prelude.{◌≡◌, ◌<◌, ◌^◌, map, not, true, ◌&&◌, ◌||◌, Bool, if◌then◌else◌};
 ghost use Rattle.std.specs.List.{list_all};
 ghost use Rattle.std.specs.Float.Ieee.Scale.{finite};
-ghost use Rattle.std.specs.Float.{nan, binary64};
-ghost use Rattle.std.specs.Float.Ieee.{ne, eq, lt, le, sub, add, div};
+ghost use Rattle.std.specs.Float.{nan, binary64, pi};
+ghost use Rattle.std.specs.Float.Ieee.{ne, lt, le};
 ghost use Rattle.ieee.specs.Basic.{abs_of, widen_of};
+ghost use Rattle.ieee.specs.Binary64.{◌⊕◌, ◌⊖◌, ◌⊘◌, half, one, two, four};
 ghost use Rattle.series.specs.Coefficients.{terms};
-ghost use Rattle.trigonometry.specs.Constants.{zero, half, one, eight, two, four, pi};
+ghost use Rattle.trigonometry.specs.Constants.{eight};
 ghost use Rattle.trigonometry.specs.Sine.{sine_term, cosine_term, sixteenth_of, doubled_of, pair_of, sin_cos_of, tan_of, apart, together};
 ghost use Rattle.trigonometry.specs.Arctangent.{arctangent_term, series_of, arctangent_of, quarter_of, mirrored_of, signed_of, atan2_of};
 ghost use Rattle.std.specs.Simd.Lanes.{zip2};
 ghost use Rattle.trigonometry.specs.Stages.{plain, place_of, ratio_of, turned_of, angle_of};
 
-const PI: f64 = 3.141592653589793;
+use std::f64::consts::PI;
 
+/// The sine and the cosine of an angle.
 #[derive(Clone, Copy)]
 pub struct SinCos {
     pub sin: f32,
     pub cos: f32,
 }
 
-/// A sine and a cosine, before they are narrowed.
+// A sine and a cosine, before they are narrowed.
 #[derive(Clone, Copy)]
-pub struct Pair {
-    pub s: f64,
-    pub c: f64,
+struct Pair {
+    s: f64,
+    c: f64,
 }
 
-/// N of them, the sines and the cosines each in an array of their own, so that a step is the same for all of an array.
+// N of them, the sines and the cosines each in an array of their own, so that a step is the same for all of an array.
 #[derive(Clone, Copy)]
-pub struct Pairs<const N: usize> {
-    pub s: [f64; N],
-    pub c: [f64; N],
+struct Pairs<const N: usize> {
+    s: [f64; N],
+    c: [f64; N],
 }
 
-#[tactic(auto, unfolding(series::specs::Coefficients::terms, series::specs::Coefficients::alternating, crate::specs::Sine::sine_term))]
-pub fn sine_coefficients() -> [f64; 8]
+fn sine_coefficients() -> [f64; 8]
     ensures { result ≡ terms sine_term 8 }
 {
     let f = series::factorial_reciprocals();
     [f[1], -f[3], f[5], -f[7], f[9], -f[11], f[13], -f[15]]
 }
 
-#[tactic(auto, unfolding(series::specs::Coefficients::terms, series::specs::Coefficients::alternating, crate::specs::Sine::cosine_term))]
-pub fn cosine_coefficients() -> [f64; 8]
+fn cosine_coefficients() -> [f64; 8]
     ensures { result ≡ terms cosine_term 8 }
 {
     let f = series::factorial_reciprocals();
     [f[0], -f[2], f[4], -f[6], f[8], -f[10], f[12], -f[14]]
 }
 
-// The sines and cosines of N numbers / 16, in step. A division, and not a product with 1 / 16, as document 01 writes it.
+// The sines and cosines of N numbers / 16, side by side.
 fn sixteenths<const N: usize>(t: [f64; N]) -> Pairs<N>
     ensures { result ≡ apart (map sixteenth_of t.entry) }
 {
@@ -78,7 +78,8 @@ fn doubled<const N: usize>(p: Pairs<N>) -> Pairs<N>
 
 // The pairs of sixteen times the angles.
 fn sixteenfold<const N: usize>(p: Pairs<N>) -> Pairs<N>
-    ensures { result ≡ apart (map (λ q. doubled_of (doubled_of (doubled_of (doubled_of q)))) (together p.entry)) }
+    ensures { result
+        ≡ apart (map (λ q. doubled_of (doubled_of (doubled_of (doubled_of q)))) (together p.entry)) }
 {
     doubled(doubled(doubled(doubled(p))))
 }
@@ -101,8 +102,8 @@ fn bounded(t: f32) -> f64
     0.0 / 0.0
 }
 
-/// The sines and cosines of N angles, in step.
-pub fn pairs_at<const N: usize>(t: [f32; N]) -> Pairs<N>
+// The sines and cosines of N angles, side by side.
+fn pairs_at<const N: usize>(t: [f32; N]) -> Pairs<N>
     ensures { result ≡ apart (map (λ x. pair_of (widen_of x)) t.entry) }
 {
     sixteenfold(sixteenths(lanes::each(t, bounded)))
@@ -125,6 +126,7 @@ fn pair_at(t: f32) -> Pair
     }
 }
 
+/// The sine and the cosine of the angle t; NaNs where t is a NaN or further than 8 from 0.
 #[tactic(auto, unfolding(crate::specs::Sine::sin_cos_of))]
 pub fn sin_cos(t: f32) -> SinCos
     ensures { result ≡ sin_cos_of t }
@@ -136,6 +138,7 @@ pub fn sin_cos(t: f32) -> SinCos
     }
 }
 
+/// The tangent of the angle t; a NaN where t is a NaN or further than 8 from 0.
 #[tactic(auto, unfolding(crate::specs::Sine::tan_of))]
 pub fn tan(t: f32) -> f32
     ensures { result ≡ tan_of t }
@@ -144,7 +147,6 @@ pub fn tan(t: f32) -> f32
     ieee::narrow(p.s / p.c)
 }
 
-#[tactic(auto, unfolding(series::specs::Coefficients::terms, series::specs::Coefficients::alternating, crate::specs::Arctangent::arctangent_term))]
 fn arctangent_coefficients() -> [f64; 26]
     ensures { result ≡ terms arctangent_term 26 }
 {
@@ -156,9 +158,9 @@ fn arctangent_coefficients() -> [f64; 26]
     ]
 }
 
-// The number at which A of document 01 takes the series.
+// The number at which the arctangent of r takes the series.
 fn reduced(r: f64) -> f64
-    ensures { result ≡ (if le r half then r else div binary64 (sub binary64 r one) (add binary64 r one)) }
+    ensures { result ≡ (if le r half then r else (r ⊖ one) ⊘ (r ⊕ one)) }
 {
     if r <= 0.5 {
         return r;
@@ -166,9 +168,9 @@ fn reduced(r: f64) -> f64
     (r - 1.0) / (r + 1.0)
 }
 
-// A of document 01, from the value v of its series.
+// The arctangent of r, from the value v of its series.
 fn raised(r: f64, v: f64) -> f64
-    ensures { result ≡ (if le r half then v else add binary64 (div binary64 pi four) v) }
+    ensures { result ≡ (if le r half then v else pi binary64 ⊘ four ⊕ v) }
 {
     if r <= 0.5 {
         return v;
@@ -176,8 +178,8 @@ fn raised(r: f64, v: f64) -> f64
     PI / 4.0 + v
 }
 
-// A of document 01 at N places, in step. The series stands once for both its cases, so that no branch but a choice between numbers
-// is left.
+// The arctangents of N numbers, side by side. The series stands once for both cases, so that no branch but a choice
+// between numbers is left.
 fn arctangents<const N: usize>(r: [f64; N]) -> [f64; N]
     ensures { result ≡ map arctangent_of r.entry }
 {
@@ -222,9 +224,9 @@ fn ratio(p: Place) -> f64
     lesser / greater
 }
 
-// The angle of the point (|x|, |y|), at most a quarter turn, from A of its ratio.
+// The angle of the point (|x|, |y|), at most a quarter turn, from the arctangent v of its ratio.
 fn quarter(p: Place, v: f64) -> f64
-    ensures { result ≡ (if le (abs_of p.y) (abs_of p.x) then v else sub binary64 (div binary64 pi two) v) }
+    ensures { result ≡ (if le (abs_of p.y) (abs_of p.x) then v else pi binary64 ⊘ two ⊖ v) }
 {
     if ieee::abs_f64(p.y) <= ieee::abs_f64(p.x) {
         return v;
@@ -259,7 +261,7 @@ fn turned(p: Place, v: f64) -> f64
     signed(p.y, mirrored(p.x, quarter(p, v)))
 }
 
-// The angles of N points by the last rule of atan2, in step.
+// The angles of N points by the last rule of atan2, side by side.
 fn main_angles<const N: usize>(p: [Place; N]) -> [f64; N]
     ensures { result ≡ map angle_of p.entry }
 {
@@ -273,6 +275,7 @@ fn both_finite(y: f32, x: f32) -> bool
     ieee::is_finite(y) && ieee::is_finite(x)
 }
 
+/// The angle of the point (x, y), from the x axis towards the y axis; NaN where one of the two is not finite.
 #[tactic(auto, using(ieee::proofs::Specials::nan32_is, crate::proofs::Specials::zero_is), unfolding(crate::specs::Arctangent::atan2_of, crate::specs::Stages::angle_of, ieee::specs::Basic::widen_of))]
 pub fn atan2(y: f32, x: f32) -> f32
     ensures { result ≡ atan2_of y x }
@@ -287,50 +290,52 @@ pub fn atan2(y: f32, x: f32) -> f32
     0.0 / 0.0
 }
 
-// Whether none of atan2's rules but the last applies. More is asked, that no y is 0: so three tests of whole arrays are enough.
-fn all_plain<const N: usize>(y: [f32; N], x: [f32; N]) -> bool
-    ensures { result ≡ true → list_all (λ (b : Bool). b) (zip2 plain y.entry x.entry) ≡ true }
+// Whether none of atan2's rules but the last applies. More is asked, that no y is 0: so three tests of whole arrays
+// are enough.
+fn all_plain<const N: usize>(ys: [f32; N], xs: [f32; N]) -> bool
+    ensures { result ≡ true → list_all (λ (b : Bool). b) (zip2 plain ys.entry xs.entry) ≡ true }
 {
-    let finite = lanes::all_between(y, -1.0 / 0.0, 1.0 / 0.0)
-        & lanes::all_between(x, -1.0 / 0.0, 1.0 / 0.0);
-    finite & lanes::all_differ(y, 0.0)
+    let finite = lanes::all_between(ys, -1.0 / 0.0, 1.0 / 0.0)
+        & lanes::all_between(xs, -1.0 / 0.0, 1.0 / 0.0);
+    finite & lanes::all_differ(ys, 0.0)
 }
 
 // Compiled apart, so that the usual case needs no more registers than it uses.
 #[cold]
 #[inline(never)]
-fn angles_apart<const N: usize>(y: [f32; N], x: [f32; N]) -> [f32; N]
-    ensures { result ≡ zip2 atan2_of y.entry x.entry }
+fn angles_apart<const N: usize>(ys: [f32; N], xs: [f32; N]) -> [f32; N]
+    ensures { result ≡ zip2 atan2_of ys.entry xs.entry }
 {
-    lanes::pairwise(y, x, atan2)
+    lanes::pairwise(ys, xs, atan2)
 }
 
-/// The angles of N points. They go in step where none is a special case, so that none waits for another. N places of two f64 fit in
-/// memory, which the types do not say.
-pub fn angles<const N: usize>(y: [f32; N], x: [f32; N]) -> [f32; N]
+// The angles of N points. They go side by side where none is a special case, so that none waits for another. The
+// bound on N, here and in each function below: N places of two f64 fit in memory, which the types do not say.
+fn angles<const N: usize>(ys: [f32; N], xs: [f32; N]) -> [f32; N]
     requires { N < 2 ^ 59 }
-    ensures { result ≡ zip2 atan2_of y.entry x.entry }
+    ensures { result ≡ zip2 atan2_of ys.entry xs.entry }
 {
-    if all_plain(y, x) {
-        return lanes::narrow(main_angles(lanes::pairwise(y, x, widened)));
+    if all_plain(ys, xs) {
+        return lanes::narrow(main_angles(lanes::pairwise(ys, xs, widened)));
     }
-    angles_apart(y, x)
+    angles_apart(ys, xs)
 }
 
-/// The angles of N points (x, y) and of N others (u, v). The two series stand one behind the other, so that a processor begins the
-/// second while the first, the longest wait, goes on. The bound on N is that of `angles`.
+/// The angles of N points and of N others. The two series stand one behind the other, so that a processor begins the
+/// second while the first, the longest wait, goes on. N is a power of two, at most 64: a vector has as many lanes.
 pub fn angles_of_both<const N: usize>(
-    y: [f32; N],
-    x: [f32; N],
-    v: [f32; N],
-    u: [f32; N],
+    ys: [f32; N],
+    xs: [f32; N],
+    other_ys: [f32; N],
+    other_xs: [f32; N],
 ) -> ([f32; N], [f32; N])
     requires { N < 2 ^ 59 }
-    ensures { result ≡ (zip2 atan2_of y.entry x.entry, zip2 atan2_of v.entry u.entry) }
+    ensures { result
+        ≡ (zip2 atan2_of ys.entry xs.entry, zip2 atan2_of other_ys.entry other_xs.entry) }
 {
-    if all_plain(y, x) & all_plain(v, u) {
-        let p = lanes::pairwise(y, x, widened);
-        let q = lanes::pairwise(v, u, widened);
+    if all_plain(ys, xs) & all_plain(other_ys, other_xs) {
+        let p = lanes::pairwise(ys, xs, widened);
+        let q = lanes::pairwise(other_ys, other_xs, widened);
         let r = lanes::each(p, ratio);
         let s = lanes::each(q, ratio);
         let f = arctangents(r);
@@ -339,10 +344,10 @@ pub fn angles_of_both<const N: usize>(
         let b = lanes::pairwise(q, g, turned);
         return (lanes::narrow(a), lanes::narrow(b));
     }
-    (angles(y, x), angles(v, u))
+    (angles(ys, xs), angles(other_ys, other_xs))
 }
 
-/// N pairs of f64 fit in memory, which the types of t and the result do not say.
+/// `sin_cos` of N angles, side by side. N is a power of two, at most 64: a vector has as many lanes.
 pub fn sines_and_cosines<const N: usize>(t: [f32; N]) -> [SinCos; N]
     requires { N < 2 ^ 59 }
     ensures { result ≡ map sin_cos_of t.entry }
@@ -353,7 +358,7 @@ pub fn sines_and_cosines<const N: usize>(t: [f32; N]) -> [SinCos; N]
     lanes::pairwise(sines, cosines, |sin, cos| SinCos { sin, cos })
 }
 
-/// The bound on N is that of `sines_and_cosines`.
+/// `tan` of N angles, side by side. N is a power of two, at most 64: a vector has as many lanes.
 pub fn tangents<const N: usize>(t: [f32; N]) -> [f32; N]
     requires { N < 2 ^ 59 }
     ensures { result ≡ map tan_of t.entry }

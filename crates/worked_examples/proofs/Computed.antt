@@ -2,7 +2,7 @@
 use mathlib.Core.Path.{refl, ap}
 use lib.Ieee as Ieee
 use Rattle.ieee.specs.Basic.{abs_of}
-use Rattle.ieee.specs.Sqrt.{sqrt_of, root_of, isqrt, root}
+use Rattle.ieee.specs.Sqrt.{sqrt_of, root_of, isqrt}
 use Rattle.geometry.specs.Point.{add_of, sub_of, scale_of, shrink_of, length_of, length_squared_of, finite_point}
 use Rattle.conic.specs.Conic.{is_line, lower_of, conic_mid, quad_mid, flat_of, half_weight_of, split_of}
 use Rattle.conic.specs.Halving.{halve, word_of}
@@ -18,7 +18,7 @@ use Rattle.worked_examples.proofs.Square.{square_outline_lem}
 
 -- opens every definition that a conic is computed by
 unfoldable computing : Unit {0}
-unfolding entries_of lowered_of elements_of pieces_in sizes_of lower_of is_line halve word_of conic_mid quad_mid flat_of half_weight_of split_of add_of sub_of scale_of shrink_of length_of length_squared_of finite_point abs_of sqrt_of root_of isqrt root step attempt bad_record has_room Ieee.of_bits Ieee.of_fields Ieee.lt Ieee.le Ieee.sub Ieee.add Ieee.neg Ieee.sum Ieee.round Ieee.size Ieee.units Ieee.odd Ieee.mul Ieee.div Ieee.span Ieee.climb
+unfolding entries_of lowered_of elements_of pieces_in sizes_of lower_of is_line halve word_of conic_mid quad_mid flat_of half_weight_of split_of add_of sub_of scale_of shrink_of length_of length_squared_of finite_point abs_of sqrt_of root_of isqrt Ieee.root_below step attempt bad_record has_room Ieee.of_bits Ieee.of_fields Ieee.lt Ieee.le Ieee.sub Ieee.add Ieee.neg Ieee.sum Ieee.round Ieee.size Ieee.units Ieee.odd Ieee.mul Ieee.div Ieee.span Ieee.climb
 computing = tt
 
 pub samples : WorkedExamples

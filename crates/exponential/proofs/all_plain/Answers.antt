@@ -8,6 +8,6 @@ use Rattle.exponential.proofs.all_plain.Goals as goal
 
 pub returns : goal.returns
 returns g c =
-    let base : (c.all_between.result && c.all_differ.result) ≡ list_all plain_base c.args.b = rw (c.all_between.ensures, c.all_differ.ensures, inf32_is) (all_bases c.args.b) in
-    let exponent : (c.all_between-2.result && c.all_differ-2.result) ≡ list_all plain_exponent c.args.y = rw (c.all_between-2.ensures, c.all_differ-2.ensures, inf32_is, minus_inf32_is) (all_exponents c.args.y) in
+    let base : (c.all_between.result && c.all_differ.result) ≡ list_all plain_base c.args.bases = rw (c.all_between.ensures, c.all_differ.ensures, inf32_is) (all_bases c.args.bases) in
+    let exponent : (c.all_between-2.result && c.all_differ-2.result) ≡ list_all plain_exponent c.args.exponents = rw (c.all_between-2.ensures, c.all_differ-2.ensures, inf32_is, minus_inf32_is) (all_exponents c.args.exponents) in
     ap₂ (λ (a b : Bool). a && b) base exponent

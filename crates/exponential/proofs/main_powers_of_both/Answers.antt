@@ -19,5 +19,5 @@ returns g c =
     let l = c.logarithms_of_both-k.ensures in
     let e = c.exponentials_of_both-e.ensures in
     ap₂ (λ a b. (a, b))
-    (by_steps c.args.b c.args.y _ _ _ _ _ (ap (λ r. r.0) l) (c.each.ensures.mapped widen_of (λ a b e. e)) (c.pairwise-t.ensures _ (λ a b r e. search rules)) (ap (λ r. r.0) e) c.narrow.ensures)
-    (by_steps c.args.c c.args.x _ _ _ _ _ (ap (λ r. r.1) l) (c.each-2.ensures.mapped widen_of (λ a b e. e)) (c.pairwise-u.ensures _ (λ a b r e. search rules)) (ap (λ r. r.1) e) c.narrow-2.ensures)
+    (by_steps c.args.bases c.args.exponents _ _ _ _ _ (ap (λ r. r.0) l) (c.each.ensures.mapped widen_of (λ a b e. e)) (c.pairwise-t.ensures _ (λ a b r e. search rules)) (ap (λ r. r.0) e) c.narrow.ensures)
+    (by_steps c.args.other_bases c.args.other_exponents _ _ _ _ _ (ap (λ r. r.1) l) (c.each-2.ensures.mapped widen_of (λ a b e. e)) (c.pairwise-u.ensures _ (λ a b r e. search rules)) (ap (λ r. r.1) e) c.narrow-2.ensures)

@@ -1,4 +1,4 @@
--- The rules in document 01's order: each return by the tests on the way to it. Assumes nothing.
+-- Each return by the tests on the way to it. Assumes nothing.
 use mathlib.Core.Path.{◌≡◌, sym, ◌∙◌}
 use mathlib.Core.Bool.{false}
 use Rattle.exponential.proofs.Rules.{above_zero}
@@ -11,5 +11,5 @@ use Rattle.exponential.proofs.pow.Goals as goal
 
 pub main_powers-requires : goal.main_powers-requires
 main_powers-requires c =
-    let above = above_zero c.args.b c.if-b.false c.if-b-2.false c.if-b-4.false (sym c.is_infinite.ensures ∙ c.if-is_infinite.false) in
-    (omega arith, (omega arith, (All-one (λ (x : Float). T (positive x)) c.args.b above, All-one (λ (x : Float). ne x x ≡ false) c.args.y c.if-y.false)))
+    let above = above_zero c.args.base c.if-base.false c.if-base-2.false c.if-base-4.false (sym c.is_infinite.ensures.value ∙ c.if-is_infinite.false) in
+    (omega arith, (omega arith, (All-one (λ (x : Float). T (positive x)) c.args.base above, All-one (λ (x : Float). ne x x ≡ false) c.args.exponent c.if-exponent.false)))

@@ -6,7 +6,7 @@ use Rattle.exponential.proofs.powers.Goals as goal
 pub main_powers-requires : goal.main_powers-requires
 main_powers-requires g c =
     let plain = sym c.all_plain.ensures ∙ c.if-all_plain.true in
-    (omega arith, (omega arith, (all_above c.args.b c.args.y plain, all_numbers c.args.b c.args.y plain)))
+    (omega arith, (omega arith, (all_above c.args.bases c.args.exponents plain, all_numbers c.args.bases c.args.exponents plain)))
 
 pub returns-then-all_plain : goal.returns-then-all_plain
-returns-then-all_plain g c = c.main_powers.ensures ∙ sym (all_main c.args.b c.args.y (sym c.all_plain.ensures ∙ c.if-all_plain.true))
+returns-then-all_plain g c = c.main_powers.ensures ∙ sym (all_main c.args.bases c.args.exponents (sym c.all_plain.ensures ∙ c.if-all_plain.true))

@@ -9,12 +9,12 @@ main_powers_of_both-requires g c =
     let plain = both _ _ c.if-all_plain.true in
     let first = sym c.all_plain.ensures ∙ plain.0 in
     let second = sym c.all_plain-2.ensures ∙ plain.1 in
-    (omega arith, (omega arith, ((all_above c.args.b c.args.y first, all_above c.args.c c.args.x second), (all_numbers c.args.b c.args.y first, all_numbers c.args.c c.args.x second))))
+    (omega arith, (omega arith, (all_above c.args.bases c.args.exponents first, (all_above c.args.other_bases c.args.other_exponents second, (all_numbers c.args.bases c.args.exponents first, all_numbers c.args.other_bases c.args.other_exponents second)))))
 
 pub returns-then-all_plain : goal.returns-then-all_plain
 returns-then-all_plain g c =
     let plain = both _ _ c.if-all_plain.true in
     c.main_powers_of_both.ensures
     ∙ ap₂ (λ a b. (a, b))
-    (sym (all_main c.args.b c.args.y (sym c.all_plain.ensures ∙ plain.0)))
-    (sym (all_main c.args.c c.args.x (sym c.all_plain-2.ensures ∙ plain.1)))
+    (sym (all_main c.args.bases c.args.exponents (sym c.all_plain.ensures ∙ plain.0)))
+    (sym (all_main c.args.other_bases c.args.other_exponents (sym c.all_plain-2.ensures ∙ plain.1)))

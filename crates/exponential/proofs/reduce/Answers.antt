@@ -2,7 +2,8 @@ use lib.Dec.{T}
 use lib.Ieee.{Float, binary64, add, div}
 use Rattle.exponential.specs.Exponential.{exp_of, within}
 use Rattle.exponential.specs.Plain.{scaled_of}
-use Rattle.exponential.specs.Constants.{half, ln2}
+use Rattle.ieee.specs.Binary64.{half}
+use Rattle.exponential.specs.Constants.{ln2}
 use Rattle.exponential.proofs.Ranges.{turns_within}
 use Rattle.exponential.proofs.Scales.{whole_is, no_nan, scale_is, scale_no_nan}
 use Rattle.exponential.proofs.reduce.Goals as goal

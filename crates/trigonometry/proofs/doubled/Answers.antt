@@ -1,7 +1,7 @@
 use Rattle.std.proofs.Common.{rules}
 use lib.Ieee.{Float, binary64, mul, sub}
 use Rattle.lanes.proofs.Places.{map-of_zip2}
-use Rattle.trigonometry.specs.Constants.{two}
+use Rattle.ieee.specs.Binary64.{two}
 use Rattle.trigonometry.specs.Sine.{doubled_of}
 use Rattle.trigonometry.proofs.doubled.Goals as goal
 
