@@ -35,10 +35,10 @@ pub returns-then-decided : goal.returns-then-decided
 returns-then-decided c h e =
     let n = c.nearness_from_bits.ensures in
     let o = one_each _ _ _ _ (simp first_32 at (rw e at (c.if-decided.true))) in
-    (rw (n.0, e) (first_lane _ _ _ _ ∙ first_32 _ ∙ told _ _ o.0), rw (n.1, e) (second_lane _ _ _ _ ∙ first_32 _ ∙ told _ _ o.1))
+    (rw (n.left, e) (first_lane _ _ _ _ ∙ first_32 _ ∙ told _ _ o.0), rw (n.right, e) (second_lane _ _ _ _ ∙ first_32 _ ∙ told _ _ o.1))
 
 pub returns : goal.returns
 returns c h e =
     let n = c.nearness_from_bits-2.ensures in
     let r = c.near_by_roots.ensures in
-    (rw (n.0, r.0, e), rw (n.1, r.1, e))
+    (rw (n.left, r.left, e), rw (n.right, r.right, e))
