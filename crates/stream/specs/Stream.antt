@@ -116,7 +116,10 @@ unfoldable pub bad_record : Builder → ℕ → ℕ → Bool
 bad_record b verb_room float_room =
     nat_lt verb_room b.verbs || nat_lt (float_room / 2) b.points || (b.verbs == 0 && nat_lt 0 b.points)
 
--- its text
+-- its number, and its text
+abbrev pub bad_record_number : ℕ
+bad_record_number = 1
+
 abbrev pub bad_record_text : List ℕ
 bad_record_text = codes "the record does not suit the buffers"
 

@@ -24,6 +24,12 @@ pub struct Builder {
     pub pen: Point,
 }
 
+/// The number of the refusal of a record that does not suit the buffers.
+pub const BAD_RECORD: u8 = 1;
+
+/// Its text.
+pub const BAD_RECORD_TEXT: &str = "the record does not suit the buffers";
+
 /// The kinds of element. In the buffer of verbs each is a byte, 0 to 4 in this order, since C lends bytes.
 #[derive(Clone, Copy, Debug, PartialEq, Eq)]
 pub enum Verb {
