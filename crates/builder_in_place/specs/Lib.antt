@@ -1,2 +1,2 @@
-pub mod Lent
+pub mod InPlace
 pub mod Triangle

@@ -80,11 +80,6 @@ run_on l m v k n x e h q =
     let w : k + (n - k) ≡ n = omega arith in
     put-after l m v (v + k) (replicate k x) (replicate (n - k) x) (omega arith) (omega arith) e ∙ ap (put l v) (runs_add k (n - k) x ∙ ap (λ (j : ℕ). replicate j x) w)
 
--- a run, stored by the library
-pub run_put : (l : List ℕ) (v n x : ℕ) → paste l v (replicate n x) n ≡ put l v (replicate n x)
-unfolding put
-run_put l v n x = let e = length-replicate n x in paste_all l v (replicate n x) n (sym e) ∙ ap (λ (k : ℕ). take v l ++ (replicate n x ++ drop (v + k) l)) (sym e) ∙ sym (append_assoc (take v l) (replicate n x) _)
-
 -- ---- one quad
 
 -- the bit where a quad starts, as the code makes it

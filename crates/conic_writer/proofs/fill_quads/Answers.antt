@@ -3,7 +3,8 @@ use Rattle.std.proofs.lemmas.Slice.{put_mid-paste}
 use Rattle.std.proofs.lemmas.List.{length-replicate}
 use lib.Seq.{length-take-le}
 use lib.ListN.{length-drop}
-use Rattle.conic_writer.proofs.Writing.{run_on, run_put}
+use Rattle.stream.proofs.Put.{put_paste}
+use Rattle.conic_writer.proofs.Writing.{run_on}
 use Rattle.conic_writer.proofs.fill_quads.Goals as goal
 
 pub returns-then-n-le8 : goal.returns-then-n-le8
@@ -16,4 +17,4 @@ returns-else-n-le8 c =
     let a = c.args in
     let part : length (take (a.v + a.n - a.v) (drop a.v a.verbs.now)) ≡ a.n = length-take-le _ _ (omega (arith, c.requires, length-drop a.v a.verbs.now)) ∙ omega arith in
     put_mid-paste a.v _ a.verbs.now _ (replicate a.n 2) a.n (c.fill.ensures.after (λ y e. e) ∙ ap (λ (k : ℕ). replicate k 2) part) (omega arith) (sym (length-replicate a.n 2))
-    ∙ run_put a.verbs.now a.v a.n 2
+    ∙ put_paste a.verbs.now a.v (replicate a.n 2) a.n (sym (length-replicate a.n 2))
