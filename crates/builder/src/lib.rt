@@ -13,8 +13,8 @@ ghost use Rattle.calls.specs.Calls.{opening, attempt, outcome_of, conic_outcome_
 
 use calls::{BuildError, Call};
 use conic::Lowered;
-use geometry::Point;
 use conic_writer::Written;
+use geometry::Point;
 use std::simd::prelude::*;
 use stream::{Builder, Element, Need};
 
@@ -23,10 +23,8 @@ use stream::{Builder, Element, Need};
 fn ensure_started(b: Builder, verbs: &mut [u8], points: &mut [f32]) -> Builder
     requires verb_room { b.verbs + (1 - b.verbs) ≤ length verbs.old }
     requires point_room { 2 * (b.points + (1 - b.verbs)) ≤ length points.old }
-    ensures {
-        state result verbs.new points.new
-        ≡ push_all (state b verbs.old points.old) (elements_of (opening (is_empty b)))
-    }
+    ensures { state result verbs.new points.new
+        ≡ push_all (state b verbs.old points.old) (elements_of (opening (is_empty b))) }
 {
     if b.verbs == 0 {
         return stream::push(b, verbs, points, Element::Move(Point { x: 0.0, y: 0.0 }));
@@ -38,10 +36,8 @@ fn ensure_started(b: Builder, verbs: &mut [u8], points: &mut [f32]) -> Builder
 // first: then nothing is asked or written for the opening move, and less for the rest.
 #[inline(always)]
 fn add(b: Builder, verbs: &mut [u8], points: &mut [f32], e: Element) -> Result<Builder, BuildError>
-    ensures {
-        outcome_of result verbs.new points.new
-        ≡ attempt (state b verbs.old points.old) (opening (is_empty b) ++ plain e ∷ [])
-    }
+    ensures { outcome_of result verbs.new points.new
+        ≡ attempt (state b verbs.old points.old) (opening (is_empty b) ++ plain e ∷ []) }
 {
     let size = e.verb().point_count() as u32;
     if b.verbs == 0 {
@@ -64,10 +60,8 @@ pub fn move_to(
     points: &mut [f32],
     p: Point,
 ) -> Result<Builder, BuildError>
-    ensures {
-        outcome_of result verbs.new points.new
-        ≡ step (state b verbs.old points.old) (Call.MoveTo p)
-    }
+    ensures { outcome_of result verbs.new points.new
+        ≡ step (state b verbs.old points.old) (Call.MoveTo p) }
 {
     let need = Need {
         verbs: 1,
@@ -86,10 +80,8 @@ pub fn line_to(
     points: &mut [f32],
     p: Point,
 ) -> Result<Builder, BuildError>
-    ensures {
-        outcome_of result verbs.new points.new
-        ≡ step (state b verbs.old points.old) (Call.LineTo p)
-    }
+    ensures { outcome_of result verbs.new points.new
+        ≡ step (state b verbs.old points.old) (Call.LineTo p) }
 {
     add(b, verbs, points, Element::Line(p))
 }
@@ -103,10 +95,8 @@ pub fn quad_to(
     ctrl: Point,
     p: Point,
 ) -> Result<Builder, BuildError>
-    ensures {
-        outcome_of result verbs.new points.new
-        ≡ step (state b verbs.old points.old) (Call.QuadTo ctrl p)
-    }
+    ensures { outcome_of result verbs.new points.new
+        ≡ step (state b verbs.old points.old) (Call.QuadTo ctrl p) }
 {
     add(b, verbs, points, Element::Quad(ctrl, p))
 }
@@ -121,10 +111,8 @@ pub fn cubic_to(
     c1: Point,
     p: Point,
 ) -> Result<Builder, BuildError>
-    ensures {
-        outcome_of result verbs.new points.new
-        ≡ step (state b verbs.old points.old) (Call.CubicTo c0 c1 p)
-    }
+    ensures { outcome_of result verbs.new points.new
+        ≡ step (state b verbs.old points.old) (Call.CubicTo c0 c1 p) }
 {
     add(b, verbs, points, Element::Cubic(c0, c1, p))
 }
@@ -138,11 +126,9 @@ fn single_to(
     ends: f32x4,
     ctrl: f32x4,
 ) -> Result<Builder, BuildError>
-    ensures {
-        outcome_of result verbs.new points.new
+    ensures { outcome_of result verbs.new points.new
         ≡ attempt (state b verbs.old points.old)
-            (opening (is_empty b) ++ plain (Element.Quad (point_in ctrl 0) (point_in ends 2)) ∷ [])
-    }
+        (opening (is_empty b) ++ plain (Element.Quad (point_in ctrl 0) (point_in ends 2)) ∷ []) }
 {
     if b.verbs == 0 {
         calls::admit(b, verbs.len(), points.len(), calls::opened_need(b, 1, 2))?;
@@ -169,11 +155,9 @@ fn split_to(
     weight: f32,
 ) -> Result<Written, BuildError>
     requires { flat_of (conic_in ends ctrl weight) ≡ false }
-    ensures {
-        conic_outcome_of result verbs.new points.new
+    ensures { conic_outcome_of result verbs.new points.new
         ≡ attempt (state b verbs.old points.old)
-            (opening (is_empty b) ++ lowered_of (Lowered.Curve (conic_in ends ctrl weight)))
-    }
+        (opening (is_empty b) ++ lowered_of (Lowered.Curve (conic_in ends ctrl weight))) }
 {
     let l = Lowered::Curve(conic::of_vectors(ends, ctrl, weight));
     calls::admit_lowered(b, verbs.len(), points.len(), l)?;
@@ -191,10 +175,8 @@ pub fn conic_to(
     to: Point,
     weight: f32,
 ) -> Result<Written, BuildError>
-    ensures {
-        conic_outcome_of result verbs.new points.new
-        ≡ step (state b verbs.old points.old) (Call.ConicTo ctrl to weight)
-    }
+    ensures { conic_outcome_of result verbs.new points.new
+        ≡ step (state b verbs.old points.old) (Call.ConicTo ctrl to weight) }
 {
     match conic::lower(calls::conic_from(b, ctrl, to, weight)) {
         Lowered::Line(p) => calls::with_word(add(b, verbs, points, Element::Line(p)), 0),
@@ -212,10 +194,8 @@ pub fn conic_to(
 /// Closes the contour: the pen goes back to its start. On an empty builder a close is accepted, and changes
 /// nothing.
 pub fn close(b: Builder, verbs: &mut [u8], points: &mut [f32]) -> Result<Builder, BuildError>
-    ensures {
-        outcome_of result verbs.new points.new
-        ≡ step (state b verbs.old points.old) Call.Close
-    }
+    ensures { outcome_of result verbs.new points.new
+        ≡ step (state b verbs.old points.old) Call.Close }
 {
     calls::admit(b, verbs.len(), points.len(), calls::close_need(b))?;
     if b.verbs == 0 {

@@ -9,8 +9,8 @@ ghost use Rattle.conic_writer.specs.Entries.{elements_of, lowered_of};
 ghost use Rattle.calls.specs.Calls.{conic_from, opened_need, opening, closing, entries_of, number_of, record_of, refusal_text, with_word, admit_of};
 
 use conic::{Conic, Lowered};
-use geometry::Point;
 use conic_writer::Written;
+use geometry::Point;
 use std::error::Error;
 use std::fmt;
 use stream::{Builder, Need};
@@ -179,10 +179,8 @@ pub fn admit(b: Builder, verbs: usize, floats: usize, need: Need) -> Result<(), 
 /// Whether the need of a lowered conic is. Buffers with room for the largest need, 64 quads, have room for any:
 /// only in fuller ones are the quads counted.
 pub fn admit_lowered(b: Builder, verbs: usize, floats: usize, l: Lowered) -> Result<(), BuildError>
-    ensures {
-        result
-        ≡ admit_of b verbs floats (need_of (elements_of (opening (is_empty b) ++ lowered_of l)))
-    }
+    ensures { result
+        ≡ admit_of b verbs floats (need_of (elements_of (opening (is_empty b) ++ lowered_of l))) }
 {
     let largest = opened_need(b, MOST_QUADS, 2 * MOST_QUADS);
     admit(b, verbs, floats, largest).or_else(|_| admit(b, verbs, floats, lowered_need(b, l)))

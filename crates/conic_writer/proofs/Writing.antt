@@ -1,11 +1,11 @@
 -- What the code that writes a conic has where it writes one quad, and where it writes both halves.
 use mathlib.Core.Path.{◌≡◌, refl, sym, ap, subst, ◌∙◌}
-use mathlib.Core.List.{List, [], ◌∷◌, ◌++◌, append_assoc}
+use mathlib.Core.List.{List, [], ◌∷◌, ◌++◌}
 use mathlib.Core.Bool.{false}
 use Prim.Native.Nat.{ℕ, zero, suc, ◌+◌, ◌-◌, ◌*◌, ◌%◌, ◌^◌, ◌≤◌, ◌<◌}
 use native.Mathlib.Nat.{one-mul}
 use native.Mathlib.Omega.{arith}
-use lib.ListN.{length, take, drop, set, replicate, length-append}
+use lib.ListN.{length, set, replicate, length-append}
 use lib.Seq.{sets-eq}
 use lib.Pow.{shl_exact}
 use lib.Dec.{lit<}
@@ -22,9 +22,7 @@ use Rattle.conic.proofs.Vectors.{of_pairs}
 use Rattle.conic.proofs.Whole.{halve-ends}
 use Rattle.stream.specs.declared.Builder.{Builder}
 use Rattle.stream.specs.declared.Element.TheVariants.{Quad}
-use lib.Seq.{paste}
 use Rattle.std.proofs.lemmas.List.{length-replicate}
-use Rattle.std.proofs.lemmas.List.Edits.{paste_all}
 use Rattle.stream.specs.Stream.{put, bytes_of, all_floats, State, state, push, push_all, advance_of, Fits}
 use Rattle.stream.proofs.Put.{put_one, put-after, length-put}
 use Rattle.stream.proofs.Past.{push_all_puts}

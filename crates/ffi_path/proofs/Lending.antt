@@ -21,7 +21,7 @@ use Rattle.calls.specs.declared.BuildError.TheVariants.{BadRecord, NoRoom}
 use Rattle.calls.specs.declared.Call.{Call}
 use Rattle.calls.specs.Calls.{Outcome, number_of, refusal_of, outcome_of, conic_outcome_of, step}
 use Rattle.calls.proofs.Opened.{no_word}
-use Rattle.ffi_path.specs.Lent.{builder_at, record_in, fitting, HoldsRecord, with_record, PathAnswer, path_answer, answer_by, lent_by, lent_step}
+use Rattle.ffi_path.specs.Lent.{builder_at, record_in, fitting, HoldsRecord, from_record, PathAnswer, path_answer, answer_by, lent_by, lent_step}
 
 -- stores that fill a list
 pub filled {ℓ} : {A : Type ℓ} (l vs : List A) → length l ≡ length vs → sets l 0 vs ≡ vs
@@ -80,10 +80,10 @@ refusal_left (NoRoom b) n counts places vs fs h = rw h
 
 -- what is made of the record that was loaded
 module _ {X : Type 0} (counts : List ℕ) (places : List Float) (f : Builder → X) (wrong : X) (r : Option Builder) (loaded : r ≡ record_in counts places) where
-  pub with_none : r ≡ None → wrong ≡ with_record counts places f wrong
+  pub with_none : r ≡ None → wrong ≡ from_record counts places f wrong
   with_none e = rw (no_record counts places r loaded e)
 
-  pub with_some : (b : Builder) → r ≡ Some b → f b ≡ with_record counts places f wrong
+  pub with_some : (b : Builder) → r ≡ Some b → f b ≡ from_record counts places f wrong
   with_some b e = let k = record_is counts places b r loaded e in rw k.fits (ap f k.builder)
 
 -- a call of any kind

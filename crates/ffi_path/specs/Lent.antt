@@ -38,12 +38,13 @@ abbrev pub HoldsRecord : List ℕ → List Float → Type 0
 HoldsRecord counts places = (length counts ≡ 3) × (length places ≡ 4)
 
 -- what is made of the record in slices that hold one, or else an answer for slices of a wrong length
-abbrev pub with_record : {X : Type 0} → List ℕ → List Float → (Builder → X) → X → X
-with_record counts places f wrong = if fitting (length counts) (length places) then f (builder_at counts places) else wrong
+abbrev pub from_record : {X : Type 0} → List ℕ → List Float → (Builder → X) → X → X
+from_record counts places f wrong =
+    if fitting (length counts) (length places) then f (builder_at counts places) else wrong
 
 -- the record in slices, where they hold one
 unfoldable pub record_in : List ℕ → List Float → Option Builder
-record_in counts places = with_record counts places (λ b. Some b) None
+record_in counts places = from_record counts places (λ b. Some b) None
 
 -- ---- what a call answers
 
@@ -69,15 +70,15 @@ unfoldable pub answer_by : Outcome → List ℕ → List Float → PathAnswer
 answer_by o counts places =
     if o.number == 0
     then path_answer 0 (counts_of o.state.builder o.word) (places_of o.state.builder)
-      o.state.verbs o.state.floats
+    o.state.verbs o.state.floats
     else path_answer o.number counts places o.state.verbs o.state.floats
 
 -- a call of any kind, given by what it makes of a state
 abbrev pub lent_by : (State → Outcome) → List ℕ → List Float → List ℕ → List Float → PathAnswer
 lent_by f counts places vs fs =
-    with_record counts places
-      (λ b. answer_by (f (state b vs fs)) counts places)
-      (path_answer wrong_length counts places vs fs)
+    from_record counts places
+    (λ b. answer_by (f (state b vs fs)) counts places)
+    (path_answer wrong_length counts places vs fs)
 
 -- one of the six
 unfoldable pub lent_step : Call → List ℕ → List Float → List ℕ → List Float → PathAnswer

@@ -10,9 +10,9 @@ ghost use Rattle.calls.specs.Calls.{conic_outcome_of};
 ghost use Rattle.ffi_path.specs.Lent.{point, HoldsRecord, record_in, counts_of, places_of, path_answer, answer_by, lent_step};
 
 use calls::{BuildError, Call};
+use conic_writer::Written;
 use ffi_floats::WRONG_LENGTH;
 use geometry::Point;
-use conic_writer::Written;
 use stream::Builder;
 
 /// The record in the lent numbers, where the slices have the lengths of one.
@@ -56,17 +56,11 @@ fn store(counts: &mut [u64], places: &mut [f32], w: Written)
 }
 
 /// The number of an answer. An accepted call's record and joint word go to the lent numbers.
-pub fn store_answer(
-    counts: &mut [u64],
-    places: &mut [f32],
-    a: Result<Written, BuildError>,
-) -> u32
+pub fn store_answer(counts: &mut [u64], places: &mut [f32], a: Result<Written, BuildError>) -> u32
     requires { HoldsRecord counts.old places.old }
-    ensures {
-        (vs : List ℕ) (fs : List Float)
+    ensures { (vs : List ℕ) (fs : List Float)
         → path_answer result counts.new places.new vs fs
-        ≡ answer_by (conic_outcome_of a vs fs) counts.old places.old
-    }
+        ≡ answer_by (conic_outcome_of a vs fs) counts.old places.old }
 {
     match a {
         Ok(w) => {
@@ -87,11 +81,9 @@ pub fn shackletongue_move_to(
     x: f32,
     y: f32,
 ) -> u32
-    ensures {
-        path_answer result counts.new places.new verbs.new points.new
+    ensures { path_answer result counts.new places.new verbs.new points.new
         ≡ lent_step (Call.MoveTo (point x y))
-            counts.old places.old verbs.old points.old
-    }
+        counts.old places.old verbs.old points.old }
 {
     let Some(b) = load(counts, places) else {
         return WRONG_LENGTH;
@@ -109,11 +101,9 @@ pub fn shackletongue_line_to(
     x: f32,
     y: f32,
 ) -> u32
-    ensures {
-        path_answer result counts.new places.new verbs.new points.new
+    ensures { path_answer result counts.new places.new verbs.new points.new
         ≡ lent_step (Call.LineTo (point x y))
-            counts.old places.old verbs.old points.old
-    }
+        counts.old places.old verbs.old points.old }
 {
     let Some(b) = load(counts, places) else {
         return WRONG_LENGTH;
@@ -133,11 +123,9 @@ pub fn shackletongue_quad_to(
     x: f32,
     y: f32,
 ) -> u32
-    ensures {
-        path_answer result counts.new places.new verbs.new points.new
+    ensures { path_answer result counts.new places.new verbs.new points.new
         ≡ lent_step (Call.QuadTo (point cx cy) (point x y))
-            counts.old places.old verbs.old points.old
-    }
+        counts.old places.old verbs.old points.old }
 {
     let Some(b) = load(counts, places) else {
         return WRONG_LENGTH;
@@ -160,11 +148,9 @@ pub fn shackletongue_conic_to(
     y: f32,
     weight: f32,
 ) -> u32
-    ensures {
-        path_answer result counts.new places.new verbs.new points.new
+    ensures { path_answer result counts.new places.new verbs.new points.new
         ≡ lent_step (Call.ConicTo (point cx cy) (point x y) weight)
-            counts.old places.old verbs.old points.old
-    }
+        counts.old places.old verbs.old points.old }
 {
     let Some(b) = load(counts, places) else {
         return WRONG_LENGTH;
@@ -193,11 +179,9 @@ pub fn shackletongue_cubic_to(
     x: f32,
     y: f32,
 ) -> u32
-    ensures {
-        path_answer result counts.new places.new verbs.new points.new
+    ensures { path_answer result counts.new places.new verbs.new points.new
         ≡ lent_step (Call.CubicTo (point ax ay) (point bx by) (point x y))
-            counts.old places.old verbs.old points.old
-    }
+        counts.old places.old verbs.old points.old }
 {
     let Some(b) = load(counts, places) else {
         return WRONG_LENGTH;
@@ -221,11 +205,9 @@ pub fn shackletongue_close(
     verbs: &mut [u8],
     points: &mut [f32],
 ) -> u32
-    ensures {
-        path_answer result counts.new places.new verbs.new points.new
+    ensures { path_answer result counts.new places.new verbs.new points.new
         ≡ lent_step Call.Close
-            counts.old places.old verbs.old points.old
-    }
+        counts.old places.old verbs.old points.old }
 {
     let Some(b) = load(counts, places) else {
         return WRONG_LENGTH;

@@ -1,6 +1,6 @@
 -- What the exported functions answer, case by case.
 use mathlib.Core.Path.{◌≡◌, refl, sym, ap, ◌∙◌}
-use mathlib.Core.List.{List, [], ◌∷◌, ◌++◌}
+use mathlib.Core.List.{List, [], ◌∷◌}
 use Prim.Native.Nat.{ℕ, ◌≤◌}
 use native.Mathlib.Omega.{arith}
 use lib.ListN.{length, set}
@@ -19,7 +19,7 @@ use Rattle.reader.specs.Bounds.{bounds_reading}
 use Rattle.reader.proofs.Folds.{next_of}
 use Rattle.reader.proofs.Parts.{next_is}
 use Rattle.ffi_path.proofs.Lending.{filled}
-use Rattle.ffi_reader.specs.Segments.{kind_of, ReadAnswer, read_answer, cursor_numbers, read_by, BoxAnswer, box_answer, rect_floats, box_by}
+use Rattle.ffi_reader.specs.Segments.{kind_of, read_answer, cursor_numbers, read_by, BoxAnswer, box_answer, rect_floats, box_by}
 
 -- ---- an answer taken apart
 

@@ -6,7 +6,7 @@ use Rattle.reader.specs.declared.Cursor.{Cursor}
 use Rattle.reader.specs.declared.Rect.{Rect}
 use Rattle.reader.specs.Reading.{Reading, ok, refused, with_record, at_verb, Item, item, end, cursor, read_at}
 use Rattle.reader.specs.Bounds.{bounds_of}
-use Rattle.ffi_path.specs.Lent.{with_record, wrong_length}
+use Rattle.ffi_path.specs.Lent.{from_record, wrong_length}
 
 -- ---- one segment
 
@@ -44,7 +44,7 @@ unfoldable pub read_of : List ℕ → List Float → List ℕ → List Float →
 read_of counts places vs fs cs old =
     let wrong = read_answer wrong_length cs old in
     if length cs == 3 && length old == 6
-    then with_record counts places (λ b. read_by (read_at (state b vs fs) (cursor_at cs)) cs old) wrong
+    then from_record counts places (λ b. read_by (read_at (state b vs fs) (cursor_at cs)) cs old) wrong
     else wrong
 
 -- ---- the box
@@ -77,5 +77,5 @@ unfoldable pub box_of : List ℕ → List Float → List ℕ → List Float → 
 box_of counts places vs fs rs ps =
     let wrong = box_answer wrong_length rs ps in
     if length rs == 4 && length ps == 1
-    then with_record counts places (λ b. box_by (bounds_of (state b vs fs)) rs ps) wrong
+    then from_record counts places (λ b. box_by (bounds_of (state b vs fs)) rs ps) wrong
     else wrong

@@ -66,11 +66,9 @@ fn cursor_at(cursor: &[u64]) -> Cursor
 // The number of a reading, whose floats were stored. Its cursor and its kind go to the lent numbers.
 fn store_reading(cursor: &mut [u64], a: Result<(Segment, Cursor), ReadError>) -> u32
     requires { length cursor.old ≡ 3 }
-    ensures {
-        (floats : List Float)
+    ensures { (floats : List Float)
         → read_answer result cursor.new (put floats 0 (floats_from (reading_of a)))
-        ≡ read_by (reading_of a) cursor.old floats
-    }
+        ≡ read_by (reading_of a) cursor.old floats }
 {
     match a {
         Ok((s, next)) => {
@@ -91,10 +89,8 @@ pub fn shackletongue_read(
     cursor: &mut [u64],
     segment: &mut [f32],
 ) -> u32
-    ensures {
-        read_answer result cursor.new segment.new
-        ≡ read_of counts.now places.now verbs.now points.now cursor.old segment.old
-    }
+    ensures { read_answer result cursor.new segment.new
+        ≡ read_of counts.now places.now verbs.now points.now cursor.old segment.old }
 {
     if cursor.len() != CURSOR_LENGTH {
         return WRONG_LENGTH;
@@ -126,9 +122,7 @@ fn store_rect(rect: &mut [f32], r: Rect)
 fn store_box(rect: &mut [f32], place: &mut [u64], a: Result<Option<Rect>, ReadError>) -> u32
     requires rect { length rect.old ≡ 4 }
     requires place { length place.old ≡ 1 }
-    ensures {
-        box_answer result rect.new place.new ≡ box_by (bounds_reading a) rect.old place.old
-    }
+    ensures { box_answer result rect.new place.new ≡ box_by (bounds_reading a) rect.old place.old }
 {
     match a {
         Ok(Some(r)) => {
@@ -157,10 +151,8 @@ pub fn shackletongue_box(
     rect: &mut [f32],
     place: &mut [u64],
 ) -> u32
-    ensures {
-        box_answer result rect.new place.new
-        ≡ box_of counts.now places.now verbs.now points.now rect.old place.old
-    }
+    ensures { box_answer result rect.new place.new
+        ≡ box_of counts.now places.now verbs.now points.now rect.old place.old }
 {
     if rect.len() != RECT_LENGTH {
         return WRONG_LENGTH;

@@ -1,4 +1,4 @@
-use mathlib.Core.Path.{◌≡◌, ap, ◌∙◌}
+use mathlib.Core.Path.{ap, ◌∙◌}
 use borrow.Author.Tests.{ne_eqb}
 use Rattle.std.proofs.Common.{Option, rules}
 use Rattle.stream.specs.declared.Builder.{Builder}
