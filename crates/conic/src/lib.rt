@@ -165,7 +165,8 @@ pub fn of_vectors(ends: f32x4, ctrl: f32x4, weight: f32) -> Conic
 /// Both halves of a conic from and to the points in `ends`, at its middle parameter; `ctrl` begins with its control.
 #[tactic(auto, unfolding(crate::specs::Conic::split_of))]
 pub fn subdivide(ends: f32x4, ctrl: f32x4, w: f32) -> Subdivision
-    ensures { halves_in result.left result.ctrls result.right (half_weight_of w) ≡ split_of (conic_in ends ctrl w) }
+    ensures { halves_in result.left result.ctrls result.right (half_weight_of w)
+        ≡ split_of (conic_in ends ctrl w) }
 {
     let from = ends.swizzle([0, 1, 0, 1]);
     let to = ends.swizzle([2, 3, 2, 3]);

@@ -49,7 +49,8 @@ struct Progress {
 #[inline(always)]
 fn put_quad(points: &mut [f32], at: usize, ctrl: f32x4, ends: f32x4)
     requires { 2 * (at + 2) ≤ length points.old }
-    ensures { points.new ≡ put points.old (2 * at) (floats_in (point_in ctrl 0 ∷ point_in ends 2 ∷ [])) }
+    ensures { points.new
+        ≡ put points.old (2 * at) (floats_in (point_in ctrl 0 ∷ point_in ends 2 ∷ [])) }
 {
     let i = 2 * at;
     let [x1, y1, x2, y2] = ctrl.shuffle(ends, [0, 1, 6, 7]).to_array();
@@ -66,7 +67,8 @@ fn push_piece(v: usize, p: usize, verbs: &mut [u8], points: &mut [f32], ends: f3
     requires verb_room { v < length verbs.old }
     requires point_room { 2 * (p + 2) ≤ length points.old }
     ensures verbs_after { verbs.new ≡ put verbs.old v (2 ∷ []) }
-    ensures points_after { points.new ≡ put points.old (2 * p) (floats_in (point_in ctrl 0 ∷ point_in ends 2 ∷ [])) }
+    ensures points_after { points.new
+        ≡ put points.old (2 * p) (floats_in (point_in ctrl 0 ∷ point_in ends 2 ∷ [])) }
 {
     verbs[v] = 2;
     put_quad(points, p, ctrl, ends);
@@ -90,10 +92,12 @@ fn push_conic(
     requires one_quad { one ≡ is_one_quad depth (conic_in ends ctrl w) }
     requires falling { depth ≤ 6 }
     requires span { start + 2 ^ depth ≤ 64 }
-    requires point_room { 2 * (at + 2 * length (halve depth (conic_in ends ctrl w) start)) ≤ length points.old }
+    requires point_room { 2 * (at + 2 * length (halve depth (conic_in ends ctrl w) start))
+        ≤ length points.old }
     requires bit_room { word + word_of (halve depth (conic_in ends ctrl w) start) < 2 ^ 64 }
     ensures points_after { points.new
-        ≡ put points.old (2 * at) (all_floats (quads_of (halve depth (conic_in ends ctrl w) start))) }
+        ≡ put points.old (2 * at)
+        (all_floats (quads_of (halve depth (conic_in ends ctrl w) start))) }
     ensures at_after { result.at ≡ at + 2 * length (halve depth (conic_in ends ctrl w) start) }
     ensures word_after { result.word ≡ word + word_of (halve depth (conic_in ends ctrl w) start) }
 {
@@ -170,7 +174,8 @@ fn push_curve(
     requires curved { flat_of (conic_in ends ctrl w) ≡ false }
     requires verb_room { v + count_of (conic_in ends ctrl w) ≤ length verbs.old }
     requires point_room { 2 * (p + 2 * count_of (conic_in ends ctrl w)) ≤ length points.old }
-    ensures verbs_after { verbs.new ≡ put verbs.old v (bytes_of (quads_of (pieces_of (conic_in ends ctrl w)))) }
+    ensures verbs_after { verbs.new
+        ≡ put verbs.old v (bytes_of (quads_of (pieces_of (conic_in ends ctrl w)))) }
     ensures points_after { points.new
         ≡ put points.old (2 * p) (all_floats (quads_of (pieces_of (conic_in ends ctrl w)))) }
     ensures count { result.count ≡ count_of (conic_in ends ctrl w) }
@@ -201,7 +206,8 @@ fn push_quads(
 ) -> usize
     requires verb_room { v + count_of (conic_in ends ctrl w) ≤ length verbs.old }
     requires point_room { 2 * (p + 2 * count_of (conic_in ends ctrl w)) ≤ length points.old }
-    ensures verbs_after { verbs.new ≡ put verbs.old v (bytes_of (quads_of (pieces_of (conic_in ends ctrl w)))) }
+    ensures verbs_after { verbs.new
+        ≡ put verbs.old v (bytes_of (quads_of (pieces_of (conic_in ends ctrl w)))) }
     ensures points_after { points.new
         ≡ put points.old (2 * p) (all_floats (quads_of (pieces_of (conic_in ends ctrl w)))) }
     ensures count { result ≡ count_of (conic_in ends ctrl w) }
