@@ -20,10 +20,8 @@ pub fn move_to(
     points: &mut [f32],
     p: Point,
 ) -> Result<(), BuildError>
-    ensures outcome {
-        outcome_in_place b.new result verbs.new points.new
-        ≡ step (state b.old verbs.old points.old) (Call.MoveTo p)
-    }
+    ensures outcome { outcome_in_place b.new result verbs.new points.new
+        ≡ step (state b.old verbs.old points.old) (Call.MoveTo p) }
     ensures refused { IfErr result (λ e. record_of e ≡ b.new) }
 {
     *b = builder::move_to(*b, verbs, points, p)?;
@@ -37,10 +35,8 @@ pub fn line_to(
     points: &mut [f32],
     p: Point,
 ) -> Result<(), BuildError>
-    ensures outcome {
-        outcome_in_place b.new result verbs.new points.new
-        ≡ step (state b.old verbs.old points.old) (Call.LineTo p)
-    }
+    ensures outcome { outcome_in_place b.new result verbs.new points.new
+        ≡ step (state b.old verbs.old points.old) (Call.LineTo p) }
     ensures refused { IfErr result (λ e. record_of e ≡ b.new) }
 {
     *b = builder::line_to(*b, verbs, points, p)?;
@@ -49,10 +45,8 @@ pub fn line_to(
 
 /// A close in place.
 pub fn close(b: &mut Builder, verbs: &mut [u8], points: &mut [f32]) -> Result<(), BuildError>
-    ensures outcome {
-        outcome_in_place b.new result verbs.new points.new
-        ≡ step (state b.old verbs.old points.old) Call.Close
-    }
+    ensures outcome { outcome_in_place b.new result verbs.new points.new
+        ≡ step (state b.old verbs.old points.old) Call.Close }
     ensures refused { IfErr result (λ e. record_of e ≡ b.new) }
 {
     *b = builder::close(*b, verbs, points)?;
@@ -78,10 +72,8 @@ pub fn triangle(
     q: Point,
     r: Point,
 ) -> TriangleAnswers
-    ensures {
-        triangle_trace result verbs.new points.new
-        ≡ trace_of (state b verbs.old points.old) (sides p q r)
-    }
+    ensures { triangle_trace result verbs.new points.new
+        ≡ trace_of (state b verbs.old points.old) (sides p q r) }
 {
     let mut held = b;
     let moved = move_to(&mut held, verbs, points, p);

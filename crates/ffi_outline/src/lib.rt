@@ -10,10 +10,10 @@ ghost use Rattle.ffi_path.specs.Lent.{path_answer};
 ghost use Rattle.ffi_outline.specs.Outlines.{add_of, needed, numbers_of, outline_need_of, conic_need_of, consistency_of};
 
 use calls::Call;
+use conic_writer::Written;
 use ffi_floats::WRONG_LENGTH;
 use ffi_shape::{SHAPE_LENGTH, SIZES_LENGTH};
 use geometry::Point;
-use conic_writer::Written;
 use stream::Need;
 
 const NEED_LENGTH: usize = 2;
