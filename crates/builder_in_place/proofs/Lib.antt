@@ -1,3 +1,2 @@
--- What a by-value answer says, and what a refusal leaves.
-pub mod Answered
+-- What a refusal leaves.
 pub mod Refused

@@ -1,2 +1,4 @@
-pub mod Lent
+pub mod InPlace
 pub mod Triangle
+pub use Rattle.stream.specs.Stream
+pub use Rattle.calls.specs.Calls

@@ -9,8 +9,8 @@ ghost use Rattle.conic_writer.specs.Entries.{elements_of, lowered_of};
 ghost use Rattle.calls.specs.Calls.{conic_from, opened_need, opening, closing, entries_of, number_of, record_of, refusal_text, with_word, admit_of};
 
 use conic::{Conic, Lowered};
-use geometry::Point;
 use conic_writer::Written;
+use geometry::Point;
 use std::error::Error;
 use std::fmt;
 use stream::{Builder, Need};
@@ -18,6 +18,7 @@ use stream::{Builder, Need};
 // The most quads that a conic is drawn as.
 const MOST_QUADS: u32 = 64;
 
+/// A building call with its arguments.
 #[derive(Drop)]
 pub enum Call {
     MoveTo(Point),
@@ -31,23 +32,24 @@ pub enum Call {
 /// The refusal of a call, with the same record.
 #[derive(Clone, Copy, Debug)]
 pub enum BuildError {
-    // Cause 1: the record does not suit the buffers.
+    /// 1: the record does not suit the buffers.
     BadRecord(Builder),
-    // Cause 5: the call needs more verbs or points than are free.
+    /// 5: the call needs more verbs or points than are free.
     NoRoom(Builder),
 }
 
 impl BuildError {
-    /// Document 01's number.
+    /// The refusal's number.
     pub fn number(self) -> u8
         ensures { result ≡ number_of self }
     {
         match self {
-            BuildError::BadRecord(_) => 1,
+            BuildError::BadRecord(_) => stream::BAD_RECORD,
             BuildError::NoRoom(_) => 5,
         }
     }
 
+    /// The record, as the call was given it.
     pub fn builder(self) -> Builder
         ensures { result ≡ record_of self }
     {
@@ -63,7 +65,7 @@ impl fmt::Display for BuildError {
 
     fn fmt<W: fmt::Write>(&self, f: &mut fmt::Formatter<W>) -> fmt::Result {
         f.write_str(match self {
-            BuildError::BadRecord(_) => "the record does not suit the buffers",
+            BuildError::BadRecord(_) => stream::BAD_RECORD_TEXT,
             BuildError::NoRoom(_) => "no room in the buffers",
         })
     }
@@ -82,20 +84,16 @@ pub fn with_word(a: Result<Builder, BuildError>, word: u64) -> Result<Written, B
 pub fn conic_from(b: Builder, ctrl: Point, to: Point, weight: f32) -> Conic
     ensures { result ≡ conic_from (is_empty b) b.pen ctrl to weight }
 {
-    if b.verbs == 0 {
-        return Conic {
-            from: Point { x: 0.0, y: 0.0 },
-            ctrl: ctrl,
-            to: to,
-            weight: weight,
-        };
-    }
-    let pen = b.pen;
+    let from = if b.verbs == 0 {
+        Point { x: 0.0, y: 0.0 }
+    } else {
+        b.pen
+    };
     Conic {
-        from: pen,
-        ctrl: ctrl,
-        to: to,
-        weight: weight,
+        from,
+        ctrl,
+        to,
+        weight,
     }
 }
 
@@ -115,7 +113,8 @@ pub fn opened_need(b: Builder, verbs: u32, points: u32) -> Need
     }
 }
 
-pub fn lowered_need(b: Builder, l: Lowered) -> Need
+// The same of a lowered conic.
+fn lowered_need(b: Builder, l: Lowered) -> Need
     ensures { result ≡ need_of (elements_of (opening (is_empty b) ++ lowered_of l)) }
 {
     match l {
@@ -177,10 +176,11 @@ pub fn admit(b: Builder, verbs: usize, floats: usize, need: Need) -> Result<(), 
     Err(BuildError::NoRoom(b))
 }
 
-/// The same of a lowered conic. Buffers with room for the largest need, 64 quads, have room for any:
+/// Whether the need of a lowered conic is. Buffers with room for the largest need, 64 quads, have room for any:
 /// only in fuller ones are the quads counted.
 pub fn admit_lowered(b: Builder, verbs: usize, floats: usize, l: Lowered) -> Result<(), BuildError>
-    ensures { result ≡ admit_of b verbs floats (need_of (elements_of (opening (is_empty b) ++ lowered_of l))) }
+    ensures { result
+        ≡ admit_of b verbs floats (need_of (elements_of (opening (is_empty b) ++ lowered_of l))) }
 {
     let largest = opened_need(b, MOST_QUADS, 2 * MOST_QUADS);
     admit(b, verbs, floats, largest).or_else(|_| admit(b, verbs, floats, lowered_need(b, l)))

@@ -27,10 +27,10 @@ abbrev pub OneOf : Bool → Bool → Type 0
 OneOf p q = cond p 1 0 + cond q 1 0 ≡ 1
 
 -- where the first test shows that n holds and the second that it does not, the first test is n
-pub first_tells : (p q n : Bool) → OneOf p q → (p ≡ true → n ≡ true) → (q ≡ true → n ≡ false) → p ≡ n
-first_tells true q n one f g = sym (f refl)
-first_tells false true n one f g = sym (g refl)
-first_tells false false n one f g = absurd (omega (arith, one))
+pub first-is : (p q n : Bool) → OneOf p q → (p ≡ true → n ≡ true) → (q ≡ true → n ≡ false) → p ≡ n
+first-is true q n one f g = sym (f refl)
+first-is false true n one f g = sym (g refl)
+first-is false false n one f g = absurd (omega (arith, one))
 
 -- four lanes as one number
 module _ (a b c d : Bool) where

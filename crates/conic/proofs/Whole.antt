@@ -1,4 +1,4 @@
--- Halving a whole conic leaves what document 01 says of it.
+-- Halving a whole conic leaves 1 to 64 quads whose spans tile it.
 use mathlib.Core.Path.{◌≡◌, refl, sym, ap, subst, ◌∙◌}
 use mathlib.Core.List.{List, [], ◌∷◌, ◌++◌}
 use Prim.Native.Nat.{ℕ, suc, ◌+◌, ◌*◌, ◌^◌, ◌≤◌, ◌<◌}

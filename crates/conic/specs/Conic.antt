@@ -1,5 +1,5 @@
--- One step of the Rust's push_conic: which conics are a line, when a conic is flat enough for one quad, and how it is halved.
--- Each float operation of binary32 is rounded once, in the order of the Rust. Definitions only.
+-- One step of the Rust's push_conic: which conics are a line, when a conic is flat enough for one quad, and how
+-- it is halved. Each float operation of binary32 is rounded once, in the order of the Rust. Definitions only.
 use Rattle.std.specs.Prelude.{Bool, true, false, not, ◌||◌, Float, if◌then◌else◌}
 use Rattle.std.specs.Float.{binary32}
 use Rattle.std.specs.Float.Ieee.{of_bits, add, sub, mul, div, lt, le}

@@ -1,5 +1,5 @@
--- The quads that the Rust's push_conic leaves of a conic, each with its span: the whole conic is 0 to 64, and a half of a conic has half its span.
--- Definitions only.
+-- The quads that the Rust's push_conic leaves of a conic, each with its span: the whole conic is 0 to 64, and a
+-- half of a conic has half its span. Definitions only.
 use Rattle.std.specs.Prelude.{List, [], ◌∷◌, ◌++◌, Bool, true, ℕ, zero, suc, ◌+◌, ◌^◌, length, if◌then◌else◌}
 use Rattle.geometry.specs.declared.Point.{Point}
 use Rattle.conic.specs.declared.Conic.{Conic}
@@ -19,7 +19,10 @@ pub record Piece : Type 0 where
   pub span : Span
 
 abbrev pub piece_of : Conic → ℕ → ℕ → Piece
-piece_of c start size = record { quad = record { ctrl = c.ctrl; to = c.to }; span = record { start = start; size = size } }
+piece_of c start size = record {
+  quad = record { ctrl = c.ctrl; to = c.to };
+  span = record { start = start; size = size };
+}
 
 -- a conic that may be halved `depth` times is drawn as one quad: it is flat, or may not be halved any more
 unfoldable pub is_one_quad : ℕ → Conic → Bool

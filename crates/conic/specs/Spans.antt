@@ -1,4 +1,5 @@
--- What document 01 says of the pieces of a conic: their number, their spans, their joint word and their end. Definitions only.
+-- The pieces of a conic: their number, their spans, their joint word and their end (docs/SPECIFICATION.md,
+-- "Conics, spans and joint words"). Definitions only.
 use Rattle.std.specs.Prelude.{◌≡◌, List, [], ◌∷◌, Bool, false, ◌||◌, ℕ, ◌+◌, ◌*◌, ◌/◌, ◌%◌, ◌^◌, ◌≤◌, ◌<◌, length, if◌then◌else◌, ◌==◌}
 use Rattle.geometry.specs.declared.Point.{Point}
 use Rattle.conic.specs.declared.Conic.{Conic}
@@ -33,7 +34,8 @@ unfoldable pub last_target : Point → List Piece → Point
 last_target p [] = p
 last_target p (q ∷ qs) = last_target q.quad.to qs
 
--- 1 to 64 quads whose spans tile 0 to 64; the joint word marks exactly the spans' starts and is not 0; the last quad ends on the target
+-- 1 to 64 quads whose spans tile 0 to 64; the joint word marks exactly the spans' starts and is not 0; the last
+-- quad ends on the target
 pub record WholeConic (c : Conic) (ps : List Piece) : Type 0 where
   pub some : 1 ≤ length ps
   pub few : length ps ≤ 64

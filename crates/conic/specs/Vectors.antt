@@ -1,9 +1,10 @@
 -- Conics in vectors of four floats, two points in each. Definitions only.
-use Rattle.std.specs.Prelude.{List, [], ◌∷◌, ℕ, ◌+◌, get_or, Float}
+use Rattle.std.specs.Prelude.{◌≡◌, List, [], ◌∷◌, ℕ, ◌+◌, get_or, Float}
 use Rattle.std.specs.Float.{nan}
 use Rattle.geometry.specs.declared.Point.{Point}
 use Rattle.conic.specs.declared.Conic.{Conic}
-use Rattle.conic.specs.Conic.{Halves, distance_of, chord_of}
+use Rattle.conic.specs.declared.Nearness.{Nearness}
+use Rattle.conic.specs.Conic.{Halves, distance_of, chord_of, near_of}
 
 -- the point whose coordinates stand at k and at k + 1
 abbrev pub point_in : List Float → ℕ → Point
@@ -17,7 +18,8 @@ pair p q = p.x ∷ p.y ∷ q.x ∷ q.y ∷ []
 abbrev pub conic_in : List Float → List Float → Float → Conic
 conic_in ends ctrl w = record { from = point_in ends 0; ctrl = point_in ctrl 0; to = point_in ends 2; weight = w }
 
--- two halves with the weight u: where they start and where the left one ends, their controls, and where they end and the right one starts
+-- two halves with the weight u: where they start and where the left one ends, their controls, and where they
+-- end and the right one starts
 abbrev pub halves_in : List Float → List Float → List Float → Float → Halves
 halves_in left ctrls right u = record {
   left = conic_in left ctrls u;
@@ -27,3 +29,9 @@ halves_in left ctrls right u = record {
 -- how far the middles of each half are apart, and then how long each chord is, squared
 abbrev pub squares_of : Halves → List Float
 squares_of h = distance_of h.left ∷ distance_of h.right ∷ chord_of h.left ∷ chord_of h.right ∷ []
+
+-- which of two halves are near by their middles and their chords
+abbrev pub IsNearnessOf : Halves → Nearness → Type 0
+IsNearnessOf h n =
+    (n.left ≡ near_of (distance_of h.left) (chord_of h.left))
+    × (n.right ≡ near_of (distance_of h.right) (chord_of h.right))

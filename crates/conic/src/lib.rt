@@ -1,18 +1,20 @@
-//! The Rust's push_conic: a conic becomes one line, or 1 to 64 quads that halving leaves. Every float
-//! operation stands in the order of the Rust.
+//! The Rust's push_conic: a conic becomes one line, or 1 to 64 quads that halving leaves. Every float that
+//! is kept is computed in the order of the Rust. Whether a half is flat is mostly decided by squared lengths,
+//! where they leave no doubt of what the Rust's lengths decide.
 
 #![tactic(auto)]
 
 ghost use Rattle.std.specs.Prelude.{◌≡◌, ℕ, ◌≤◌, ◌/◌, ◌%◌, length, map, get_or, ◌==◌};
 ghost use Rattle.std.specs.Float.{binary32, nan};
 ghost use Rattle.ieee.specs.Sqrt.{sqrt_of};
-ghost use Rattle.conic.specs.Vectors.{point_in, pair, conic_in, halves_in, squares_of};
-ghost use Rattle.conic.specs.Conic.{is_line, lower_of, conic_mid, quad_mid, distance_of, chord_of, near_one_of, near_of, flat_of, half_weight_of, Halves, split_of};
+ghost use Rattle.conic.specs.Vectors.{point_in, pair, conic_in, halves_in, squares_of, IsNearnessOf};
+ghost use Rattle.conic.specs.Conic.{is_line, lower_of, conic_mid, quad_mid, near_one_of, near_of, flat_of, half_weight_of, Halves, split_of};
 ghost use Rattle.conic.specs.Halving.{is_one_quad, halve, count_of};
 
 use geometry::Point;
 use std::simd::prelude::*;
 
+/// A rational quadratic: from one point to another, with a control and its weight.
 #[derive(Clone, Copy)]
 pub struct Conic {
     pub from: Point,
@@ -47,8 +49,9 @@ pub enum Lowered {
 /// How often a conic is halved at most.
 pub const MAX_DEPTH: usize = 6;
 
-// Bounds outside which squared lengths decide: a distance whose square is below LESS times that of the chord is near, and one whose
-// square is above MORE times it is not, however the product is rounded. In between, the roots round one way or the other.
+// Bounds outside which squared lengths decide: a distance whose square is below LESS times that of the chord
+// is near, and one whose square is above MORE times it is not, however the product is rounded. In between,
+// the roots round one way or the other.
 const LESS: f32 = 9.99998e-7;
 
 const MORE: f32 = 1.000002e-6;
@@ -131,19 +134,21 @@ pub fn half_weight(w: f32) -> f32
     ieee::sqrt((1.0 + w) * 0.5)
 }
 
-/// A conic in two vectors, and its weight beside them: start and target, and the control twice.
+/// A conic is two vectors, with its weight beside them. This is the first: its start and its target.
 pub fn ends(c: Conic) -> f32x4
     ensures { result ≡ pair c.from c.to }
 {
     f32x4::from_array([c.from.x, c.from.y, c.to.x, c.to.y])
 }
 
+/// The second: its control, twice.
 pub fn ctrl(c: Conic) -> f32x4
     ensures { result ≡ pair c.ctrl c.ctrl }
 {
     f32x4::from_array([c.ctrl.x, c.ctrl.y, c.ctrl.x, c.ctrl.y])
 }
 
+/// The conic in two such vectors and its weight.
 pub fn of_vectors(ends: f32x4, ctrl: f32x4, weight: f32) -> Conic
     ensures { result ≡ conic_in ends ctrl weight }
 {
@@ -160,7 +165,8 @@ pub fn of_vectors(ends: f32x4, ctrl: f32x4, weight: f32) -> Conic
 /// Both halves of a conic from and to the points in `ends`, at its middle parameter; `ctrl` begins with its control.
 #[tactic(auto, unfolding(crate::specs::Conic::split_of))]
 pub fn subdivide(ends: f32x4, ctrl: f32x4, w: f32) -> Subdivision
-    ensures { halves_in result.left result.ctrls result.right (half_weight_of w) ≡ split_of (conic_in ends ctrl w) }
+    ensures { halves_in result.left result.ctrls result.right (half_weight_of w)
+        ≡ split_of (conic_in ends ctrl w) }
 {
     let from = ends.swizzle([0, 1, 0, 1]);
     let to = ends.swizzle([2, 3, 2, 3]);
@@ -180,7 +186,8 @@ pub fn subdivide(ends: f32x4, ctrl: f32x4, w: f32) -> Subdivision
 // What bits 0 and 1 say, of the left half and the right.
 #[inline(always)]
 fn nearness_from_bits(bits: u64) -> Nearness
-    ensures { (result.left ≡ (bits % 2 == 1)) × (result.right ≡ (bits / 2 % 2 == 1)) }
+    ensures left { result.left ≡ (bits % 2 == 1) }
+    ensures right { result.right ≡ (bits / 2 % 2 == 1) }
 {
     Nearness {
         left: bits % 2 == 1,
@@ -191,7 +198,8 @@ fn nearness_from_bits(bits: u64) -> Nearness
 // Whether each half is near, by the lengths themselves: bit 0 says it of the left half, bit 1 of the right.
 #[inline(always)]
 fn near_by_roots(squares: f32x4) -> u64
-    ensures { ((result % 2 == 1) ≡ near_of (get_or squares 0 nan) (get_or squares 2 nan)) × ((result / 2 % 2 == 1) ≡ near_of (get_or squares 1 nan) (get_or squares 3 nan)) }
+    ensures left { (result % 2 == 1) ≡ near_of (get_or squares 0 nan) (get_or squares 2 nan) }
+    ensures right { (result / 2 % 2 == 1) ≡ near_of (get_or squares 1 nan) (get_or squares 3 nan) }
 {
     let lengths = roots(squares);
     let chords = lengths.swizzle([2, 3, 2, 3]);
@@ -199,11 +207,11 @@ fn near_by_roots(squares: f32x4) -> u64
     near.to_bitmask()
 }
 
-// Whether each half is near. Roots take long, and the squared lengths nearly always decide: the roots are taken only where they
-// leave one of the halves open. NaNs decide nothing.
+// Whether each half is near. Roots take long, and the squared lengths nearly always decide: the roots are taken
+// only where they leave one of the halves open. NaNs decide nothing.
 #[inline(always)]
 fn near_by_squares(squares: f32x4) -> Nearness
-    ensures { (h : Halves) → squares ≡ squares_of h → (result.left ≡ near_of (distance_of h.left) (chord_of h.left)) × (result.right ≡ near_of (distance_of h.right) (chord_of h.right)) }
+    ensures { (h : Halves) → squares ≡ squares_of h → IsNearnessOf h result }
 {
     let chords = squares.swizzle([2, 3, 2, 3]);
     let bounds = f32x4::from_array([LESS, LESS, MORE, MORE]) * chords;
@@ -212,7 +220,8 @@ fn near_by_squares(squares: f32x4) -> Nearness
     // Strictly: a square that equals a rounded bound may be on either side of the bound itself.
     let tests = lesser.simd_lt(greater);
     let bits = tests.to_bitmask();
-    // Bits 0 and 1 say near, bits 2 and 3 far, of the left half and the right: the sum is 3 where each half has one of both.
+    // Bits 0 and 1 say near, bits 2 and 3 far, of the left half and the right: the sum is 3 where each half
+    // has one of both.
     let decided = bits % 4 + (bits >> 2) == 3;
     if decided {
         return nearness_from_bits(bits);
@@ -223,7 +232,7 @@ fn near_by_squares(squares: f32x4) -> Nearness
 /// Whether the middles of each half and of its quad are near each other, measured by a chord above 0.
 pub fn is_near(left: f32x4, ctrls: f32x4, right: f32x4, u: f32) -> Nearness
     requires { point_in left 2 ≡ point_in right 0 }
-    ensures { (h : Halves) → h ≡ halves_in left ctrls right u → (result.left ≡ near_of (distance_of h.left) (chord_of h.left)) × (result.right ≡ near_of (distance_of h.right) (chord_of h.right)) }
+    ensures { (h : Halves) → h ≡ halves_in left ctrls right u → IsNearnessOf h result }
 {
     let sum = left + ctrls * f32x4::splat(2.0 * u) + right;
     let conic_mid = sum / f32x4::splat(2.0 * (1.0 + u));
@@ -242,9 +251,11 @@ pub fn second(v: f32x4) -> f32x4
     v.swizzle([2, 3, 2, 3])
 }
 
-// How many quads at most `depth` halvings leave of a conic, wherever its span starts; `one` tells whether it is one.
+// How many quads at most `depth` halvings leave of a conic, wherever its span starts; `one` says whether it is
+// one.
 fn count_quads(ends: f32x4, ctrl: f32x4, w: f32, depth: usize, one: bool) -> usize
-    requires { (depth ≤ 6) × (one ≡ is_one_quad depth (conic_in ends ctrl w)) }
+    requires falling { depth ≤ 6 }
+    requires one_quad { one ≡ is_one_quad depth (conic_in ends ctrl w) }
     ensures { (start : ℕ) → result ≡ length (halve depth (conic_in ends ctrl w) start) }
 {
     if one {

@@ -1,39 +1,34 @@
 -- What the code that writes a conic has where it writes one quad, and where it writes both halves.
-use mathlib.Core.Path.{◌≡◌, refl, sym, ap, ap₂, subst, ◌∙◌}
-use mathlib.Core.List.{List, [], ◌∷◌, ◌++◌, append_assoc}
-use mathlib.Core.Bool.{Bool, true, false, ◌&&◌, ◌||◌, true≢false}
+use mathlib.Core.Path.{◌≡◌, refl, sym, ap, subst, ◌∙◌}
+use mathlib.Core.List.{List, [], ◌∷◌, ◌++◌}
+use mathlib.Core.Bool.{false}
 use Prim.Native.Nat.{ℕ, zero, suc, ◌+◌, ◌-◌, ◌*◌, ◌%◌, ◌^◌, ◌≤◌, ◌<◌}
 use native.Mathlib.Nat.{one-mul}
 use native.Mathlib.Omega.{arith}
-use lib.ListN.{length, take, drop, set, replicate, length-append}
+use lib.ListN.{length, set, replicate, length-append}
 use lib.Seq.{sets-eq}
-use lib.Pow.{shl_exact, pow_pos}
-use lib.Dec.{lit<, eqb}
+use lib.Pow.{shl_exact}
+use lib.Dec.{lit<}
 use lib.Ieee.{Float}
-use Rattle.geometry.specs.declared.Point.{Point}
 use Rattle.conic.specs.declared.Conic.{Conic}
-use Rattle.conic.specs.Conic.{Halves, split_of, half_weight_of, near_one_of, near_of, distance_of, chord_of}
+use Rattle.conic.specs.Conic.{Halves, split_of}
 use Rattle.conic.specs.declared.Lowered.{Lowered}
 use Rattle.conic.specs.declared.Lowered.TheVariants as lowered
-use Rattle.conic.specs.Vectors.{pair, point_in, conic_in, halves_in}
+use Rattle.conic.specs.Vectors.{pair, conic_in}
+use Rattle.conic.specs.Spans.{last_target}
 use Rattle.conic.specs.Halving.{Piece, piece_of, is_one_quad, halve, pieces_of, count_of, word_of}
-use Rattle.conic.proofs.Halving.{halve_one, halve_two, split_some, half-span, word_append}
-use Rattle.conic.proofs.Flat.{quad_is}
-use Rattle.conic.proofs.Vectors.{of_pairs, halves_with, halves_are, halves_split}
+use Rattle.conic.proofs.Halving.{halve_two, split_some, half-span, word_append}
+use Rattle.conic.proofs.Vectors.{of_pairs}
 use Rattle.conic.proofs.Whole.{halve-ends}
 use Rattle.stream.specs.declared.Builder.{Builder}
 use Rattle.stream.specs.declared.Element.TheVariants.{Quad}
-use lib.Seq.{paste}
 use Rattle.std.proofs.lemmas.List.{length-replicate}
-use Rattle.std.proofs.lemmas.List.Edits.{paste_all}
-use Rattle.stream.specs.Stream.{put, all_floats, state, push, push_all, advance_of, Fits}
+use Rattle.stream.specs.Stream.{put, bytes_of, all_floats, State, state, push, push_all, advance_of, Fits}
 use Rattle.stream.proofs.Put.{put_one, put-after, length-put}
-use Rattle.stream.proofs.Pushed.{push_all-verbs, push-all_points, push_all-start, push_all-pen}
 use Rattle.stream.proofs.Past.{push_all_puts}
 use Rattle.stream.proofs.Lists.{floats_append, length_all}
-use Rattle.conic_writer.specs.Entries.{elements_of, quads_of, lowered_of, builder_at}
-use Rattle.conic_writer.specs.Quads.{Lowers}
-use Rattle.conic_writer.proofs.Entries.{lowered_curve, quads_append, quads-length, quads-sizes, quads-bytes, quads-start, quads-pen}
+use Rattle.conic_writer.specs.Entries.{elements_of, quads_of, lowered_of, after_quads}
+use Rattle.conic_writer.proofs.Entries.{lowered_curve, quads_append, quads-sizes}
 
 -- ---- runs of stores
 
@@ -72,17 +67,16 @@ run_3 l v x h = ap (λ (m : List ℕ). set m (v + 2) x) (run_2 l v x (omega arit
 pub run_4 : (l : List ℕ) (v x : ℕ) → v + 3 < length l → set (set (set (set l v x) (v + 1) x) (v + 2) x) (v + 3) x ≡ put l v (replicate 4 x)
 run_4 l v x h = ap (λ (m : List ℕ). set m (v + 3) x) (run_3 l v x (omega arith)) ∙ run_more l v 3 x h
 
--- four and more behind them
-pub run_on : (l m : List ℕ) (v n x : ℕ) → m ≡ put l v (replicate 4 x) → v + n ≤ length l → 4 ≤ n → put m (v + 4) (replicate (n - 4) x) ≡ put l v (replicate n x)
-run_on l m v n x e h k =
-    let z = length-replicate (n - 4) x in
-    let s : suc (suc (suc (suc (n - 4)))) ≡ n = omega arith in
-    put-after l m v (v + 4) (replicate 4 x) (replicate (n - 4) x) (omega arith) refl e ∙ ap (λ (j : ℕ). put l v (replicate j x)) s
+-- two runs, one behind the other
+runs_add : (k m x : ℕ) → replicate k x ++ replicate m x ≡ replicate (k + m) x
+runs_add zero m x = let e : m ≡ 0 + m = omega arith in ap (λ (j : ℕ). replicate j x) e
+runs_add (suc k) m x = let e : suc (k + m) ≡ suc k + m = omega arith in ap (λ (r : List ℕ). x ∷ r) (runs_add k m x) ∙ ap (λ (j : ℕ). replicate j x) e
 
--- a run, stored by the library
-pub run_put : (l : List ℕ) (v n x : ℕ) → paste l v (replicate n x) n ≡ put l v (replicate n x)
-unfolding put
-run_put l v n x = let e = length-replicate n x in paste_all l v (replicate n x) n (sym e) ∙ ap (λ (k : ℕ). take v l ++ (replicate n x ++ drop (v + k) l)) (sym e) ∙ sym (append_assoc (take v l) (replicate n x) _)
+pub run_on : (l m : List ℕ) (v k n x : ℕ) → m ≡ put l v (replicate k x) → v + n ≤ length l → k ≤ n → put m (v + k) (replicate (n - k) x) ≡ put l v (replicate n x)
+run_on l m v k n x e h q =
+    let z = length-replicate k x in
+    let w : k + (n - k) ≡ n = omega arith in
+    put-after l m v (v + k) (replicate k x) (replicate (n - k) x) (omega arith) (omega arith) e ∙ ap (put l v) (runs_add k (n - k) x ∙ ap (λ (j : ℕ). replicate j x) w)
 
 -- ---- one quad
 
@@ -93,12 +87,19 @@ bit k h = shl_exact 1 k 64 (lit< tt) (omega arith) ∙ one-mul (2 ^ k)
 pub record OneQuad (ps : List Piece) (c : Conic) (start : ℕ) : Type 0 where
   pub many : length ps ≡ 1
   pub quads : quads_of ps ≡ Quad c.ctrl c.to ∷ []
+  pub bytes : bytes_of (quads_of ps) ≡ 2 ∷ []
   pub floats : all_floats (quads_of ps) ≡ c.ctrl.x ∷ c.ctrl.y ∷ c.to.x ∷ c.to.y ∷ []
   pub word : word_of ps ≡ (1 * 2 ^ start) % 2 ^ 64
 
 pub one-quad : (ps : List Piece) (c : Conic) (start size : ℕ) → start < 64 → ps ≡ piece_of c start size ∷ [] → OneQuad ps c start
-unfolding elements_of word_of all_floats
-one-quad ps c start size h e = record { many = ap length e; quads = ap quads_of e; floats = ap (λ (qs : List Piece). all_floats (quads_of qs)) e; word = ap word_of e ∙ omega (arith, bit start h) }
+unfolding elements_of word_of bytes_of all_floats
+one-quad ps c start size h e = record {
+  many = ap length e;
+  quads = ap quads_of e;
+  bytes = ap (λ (qs : List Piece). bytes_of (quads_of qs)) e;
+  floats = ap (λ (qs : List Piece). all_floats (quads_of qs)) e;
+  word = ap word_of e ∙ omega (arith, bit start h);
+}
 
 -- what pieces leave that were written from point `at` on: the points, the next point and the word
 pub record Wrote (ps : List Piece) (fs gs : List Float) (at next word after : ℕ) : Type 0 where
@@ -109,12 +110,6 @@ pub record Wrote (ps : List Piece) (fs gs : List Float) (at next word after : �
 pub one-wrote : (ps : List Piece) (c : Conic) (start at word : ℕ) {fs gs : List Float} → OneQuad ps c start → gs ≡ put fs (2 * at) (c.ctrl.x ∷ c.ctrl.y ∷ c.to.x ∷ c.to.y ∷ [])
     → Wrote ps fs gs at (at + 2) word (word + (1 * 2 ^ start) % 2 ^ 64)
 one-wrote ps c start at word {fs} h e = let m = h.many in let b = h.word in record { points = e ∙ ap (put fs (2 * at)) (sym h.floats); end = omega arith; bits = omega arith }
-
--- a quad is written in the same way wherever start and pen are
-pub quad_anywhere : (v p : ℕ) (ctrl to : Point) (vs : List ℕ) (fs : List Float) {gs : List Float} → v < length vs → gs ≡ put fs (2 * p) (ctrl.x ∷ ctrl.y ∷ to.x ∷ to.y ∷ [])
-    → (from pen : Point) → state (builder_at (v + 1) (p + 2) from to) (set vs v 2) gs ≡ push (state (builder_at v p from pen) vs fs) (Quad ctrl to)
-unfolding push advance_of
-quad_anywhere v p ctrl to vs fs h e from pen = ap₂ (state (builder_at (v + 1) (p + 2) from to)) (put_one vs v 2 h) e
 
 -- ---- both halves
 
@@ -148,10 +143,6 @@ split n c h start six f e =
       whole = omega (arith, half, span);
     }
 
-pub each_true : (p q : Bool) → (p && q) ≡ true → (p ≡ true) × (q ≡ true)
-each_true true q h = (refl, h)
-each_true false q h = absurd (true≢false (sym h))
-
 quads-floats : (ps : List Piece) → length (all_floats (quads_of ps)) ≡ 4 * length ps
 quads-floats ps = length_all (quads_of ps) ∙ omega (arith, quads-sizes ps)
 
@@ -172,52 +163,39 @@ both-wrote ps l r {fs} {us} {gs} {at} {mid} h b x y =
       bits = omega (arith, x.bits, y.bits);
     }
 
--- a conic that is split, and both halves are one quad: how many that is, and the bits where they start
-pub record TwoQuads (ps l r : List Piece) (h : Halves) (start next : ℕ) : Type 0 where
-  pub both : BothHalves ps l r
-  pub left : OneQuad l h.left start
-  pub right : OneQuad r h.right next
-  pub many : length ps ≡ 2
-  pub word : word_of ps ≡ (1 * 2 ^ start) % 2 ^ 64 + (1 * 2 ^ next) % 2 ^ 64
-  pub below : next < 64
-
--- from what the code is told of the halves: that b is the right one's control, whether their weight u is near 1, and which of them are near
-pub two-quads : (n : ℕ) (c : Conic) (l k r b : List Float) (u : Float) (start : ℕ) {o x y : Bool} → n ≤ 6 → start + 2 ^ n ≤ 64 → is_one_quad n c ≡ false
-    → halves_in l k r (half_weight_of c.weight) ≡ split_of c → u ≡ half_weight_of c.weight → b ≡ pair (point_in k 2) (point_in k 2) → o ≡ near_one_of u
-    → ((h : Halves) → h ≡ halves_in l k r u → (x ≡ near_of (distance_of h.left) (chord_of h.left)) × (y ≡ near_of (distance_of h.right) (chord_of h.right)))
-    → (((eqb (n - 1) 0 || o) || x) && ((eqb (n - 1) 0 || o) || y)) ≡ true
-    → let h = halves_with l k r b u in let next = start + (1 * 2 ^ (n - 1)) % 2 ^ 64 in TwoQuads (halve n c start) (halve (n - 1) h.left start) (halve (n - 1) h.right next) h start next
-two-quads n c l k r b u start {o} {x} {y} six fits f e w t z near both =
-    let h = halves_with l k r b u in
-    let s = split n c h start six f (halves_split c l k r b u e w t) in
-    let d = n - 1 in
-    let next = start + (1 * 2 ^ d) % 2 ^ 64 in
-    let is = near h (halves_are l k r b u t) in
-    let each = each_true ((eqb d 0 || o) || x) ((eqb d 0 || o) || y) both in
-    let below : next < 64 = omega (arith, fits, s.whole, pow_pos d) in
-    let p = one-quad _ h.left start _ (omega (arith, fits, pow_pos n)) (halve_one d h.left start (sym (quad_is d h.left z is.0) ∙ each.0)) in
-    let q = one-quad _ h.right next _ below (halve_one d h.right next (sym (quad_is d h.right z is.1) ∙ each.1)) in
-    record {
-      both = s.both;
-      left = p;
-      right = q;
-      many = omega (arith, s.both.many, p.many, q.many);
-      word = omega (arith, s.both.word, p.word, q.word);
-      below = below;
-    }
-
-pub two-wrote : (ps l r : List Piece) (h : Halves) (start next at word : ℕ) {fs us gs : List Float} → 2 * at ≤ length fs → TwoQuads ps l r h start next
-    → us ≡ put fs (2 * at) (h.left.ctrl.x ∷ h.left.ctrl.y ∷ h.left.to.x ∷ h.left.to.y ∷ [])
-    → gs ≡ put us (2 * (at + 2)) (h.right.ctrl.x ∷ h.right.ctrl.y ∷ h.right.to.x ∷ h.right.to.y ∷ [])
-    → Wrote ps fs gs at (at + 2 + 2) word (word + (1 * 2 ^ start) % 2 ^ 64 + (1 * 2 ^ next) % 2 ^ 64)
-two-wrote ps l r h start next at word room q x y =
-    both-wrote ps l r room q.both (one-wrote l h.left start at word q.left x) (one-wrote r h.right next (at + 2) (word + (1 * 2 ^ start) % 2 ^ 64) q.right y)
-
 -- ---- a whole conic
 
 pub count_is : (c : Conic) → count_of c ≡ length (pieces_of c)
 unfolding count_of
 count_is c = refl
+
+-- the record behind the quads of pieces
+quads-builder : (s : State) (ps : List Piece) → (push_all s (quads_of ps)).builder ≡ after_quads s.builder (length ps) (last_target s.builder.pen ps)
+unfolding push_all push advance_of elements_of last_target
+quads-builder s [] =
+    let b = s.builder in
+    let v : b.verbs ≡ b.verbs + 0 = omega arith in
+    let p : b.points ≡ b.points + 2 * 0 = omega arith in
+    λ i. record b { verbs = v i; points = p i }
+quads-builder s (q ∷ ps) =
+    let b = s.builder in
+    let v : b.verbs + 1 + length ps ≡ b.verbs + suc (length ps) = omega arith in
+    let p : b.points + 2 + 2 * length ps ≡ b.points + 2 * suc (length ps) = omega arith in
+    quads-builder (push s (Quad q.quad.ctrl q.quad.to)) ps ∙ (λ i. record b { verbs = v i; points = p i; pen = last_target q.quad.to ps })
+
+-- bytes and points in place, and the record behind them, are the quads pushed
+pub whole-pushed : (b r : Builder) (n : ℕ) (c : Conic) (vs ws : List ℕ) (fs gs : List Float) → Fits b vs fs (quads_of (pieces_of c)) → r ≡ after_quads b n c.to → n ≡ count_of c
+    → ws ≡ put vs b.verbs (bytes_of (quads_of (pieces_of c))) → gs ≡ put fs (2 * b.points) (all_floats (quads_of (pieces_of c)))
+    → state r ws gs ≡ push_all (state b vs fs) (quads_of (pieces_of c))
+whole-pushed b r n c vs ws fs gs room behind many g h =
+    let ps = pieces_of c in
+    let s = state b vs fs in
+    let t = push_all_puts s (quads_of ps) room.0 room.1 in
+    let builder : r ≡ (push_all s (quads_of ps)).builder =
+    behind ∙ ap (λ (m : ℕ). after_quads b m c.to) (many ∙ count_is c) ∙ ap (after_quads b (length ps)) (sym (halve-ends 6 c 0 b.pen)) ∙ sym (quads-builder s ps) in
+    let bytes : ws ≡ (push_all s (quads_of ps)).verbs = g ∙ sym t.verbs in
+    let floats : gs ≡ (push_all s (quads_of ps)).floats = h ∙ sym t.floats in
+    λ i. state (builder i) (bytes i) (floats i)
 
 -- a conic that is lowered to itself, in its two vectors: the room for it, and what is left behind it
 module _ {l : Lowered} {k : Conic} {e t : List Float} (is : l ≡ lowered.Curve k) (p : e ≡ pair k.from k.to) (q : t ≡ pair k.ctrl k.ctrl) where
@@ -227,24 +205,11 @@ module _ {l : Lowered} {k : Conic} {e t : List Float} (is : l ≡ lowered.Curve 
       let n = ap count_of (of_pairs k e t p q) ∙ count_is k in
       (omega (arith, s.0, h.many, n), omega (arith, s.1, h.size, n))
 
-  pub curve_lowers : (n v at : ℕ) (vs ws : List ℕ) (fs gs : List Float) → Lowers n v at (conic_in e t k.weight) vs fs ws gs → Lowers n v at k vs fs ws gs
-  curve_lowers n v at vs ws fs gs = subst (λ (c : Conic). Lowers n v at c vs fs ws gs) (of_pairs k e t p q)
-
--- bytes and points in place are the quads pushed, wherever start and pen are
-pub whole-pushed : (v p n : ℕ) (c : Conic) (vs ws : List ℕ) (fs gs : List Float) → v + length (pieces_of c) ≤ length vs → 2 * (p + 2 * length (pieces_of c)) ≤ length fs → n ≡ length (pieces_of c)
-    → ws ≡ put vs v (replicate n 2) → gs ≡ put fs (2 * p) (all_floats (quads_of (pieces_of c)))
-    → (from pen : Point) → state (builder_at (v + n) (p + 2 * n) from c.to) ws gs ≡ push_all (state (builder_at v p from pen) vs fs) (quads_of (pieces_of c))
-whole-pushed v p n c vs ws fs gs hv hf e g h from pen =
-    let ps = pieces_of c in
-    let ks = quads_of ps in
-    let s = state (builder_at v p from pen) vs fs in
-    let many = quads-length ps in
-    let size = quads-sizes ps in
-    let r = push_all_puts s ks (omega arith) (omega arith) in
-    let verbs : v + n ≡ (push_all s ks).builder.verbs = sym (push_all-verbs s ks ∙ omega arith) in
-    let points : p + 2 * n ≡ (push_all s ks).builder.points = sym (push-all_points s ks ∙ omega arith) in
-    let start : from ≡ (push_all s ks).builder.start = sym (push_all-start s ks ∙ quads-start from ps) in
-    let end : c.to ≡ (push_all s ks).builder.pen = sym (push_all-pen s ks ∙ quads-pen from pen ps ∙ halve-ends 6 c 0 pen) in
-    let bytes : ws ≡ (push_all s ks).verbs = g ∙ ap (λ (m : ℕ). put vs v (replicate m 2)) e ∙ sym (r.verbs ∙ ap (put vs v) (quads-bytes ps)) in
-    let floats : gs ≡ (push_all s ks).floats = h ∙ sym r.floats in
-    λ i. state (builder_at (verbs i) (points i) (start i) (end i)) (bytes i) (floats i)
+  pub curve-pushed : (b r : Builder) (n : ℕ) (vs ws : List ℕ) (fs gs : List Float) → Fits b vs fs (elements_of (lowered_of l)) → r ≡ after_quads b n k.to → n ≡ count_of (conic_in e t k.weight)
+      → ws ≡ put vs b.verbs (bytes_of (quads_of (pieces_of (conic_in e t k.weight)))) → gs ≡ put fs (2 * b.points) (all_floats (quads_of (pieces_of (conic_in e t k.weight))))
+      → state r ws gs ≡ push_all (state b vs fs) (elements_of (lowered_of l))
+  curve-pushed b r n vs ws fs gs room behind many g h =
+      let is_curve = (lowered_curve l k is).elements in
+      let o = of_pairs k e t p q in
+      whole-pushed b r n k vs ws fs gs (subst (Fits b vs fs) is_curve room) behind (many ∙ ap count_of o) (g ∙ ap (λ (c : Conic). put vs b.verbs (bytes_of (quads_of (pieces_of c)))) o) (h ∙ ap (λ (c : Conic). put fs (2 * b.points) (all_floats (quads_of (pieces_of c)))) o)
+      ∙ sym (ap (push_all (state b vs fs)) is_curve)

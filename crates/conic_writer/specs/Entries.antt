@@ -1,5 +1,6 @@
--- What is added to a path: elements, and for the quads of a conic the pieces that halving left, each with its span. Definitions only.
-use Rattle.std.specs.Prelude.{◌≡◌, List, [], ◌∷◌, map, true, false, ℕ, Float}
+-- What is added to a path: elements, and for the quads of a conic the pieces that halving left, each with its
+-- span. Definitions only.
+use Rattle.std.specs.Prelude.{◌≡◌, List, [], ◌∷◌, map, true, false, ℕ, ◌+◌, ◌*◌}
 use Rattle.geometry.specs.declared.Point.{Point}
 use Rattle.conic.specs.declared.Conic.{Conic}
 use Rattle.conic.specs.declared.Lowered.{Lowered}
@@ -50,15 +51,13 @@ unfoldable pub lowered_of : Lowered → List Entry
 lowered_of (lowered.Line p) = plain (Line p) ∷ []
 lowered_of (lowered.Curve c) = map piece (pieces_of c)
 
--- a point and a builder record by their parts
-abbrev pub point_at : Float → Float → Point
-point_at x y = record { x = x; y = y }
+-- the record behind n quads, the last of which ends at p
+abbrev pub after_quads : Builder → ℕ → Point → Builder
+after_quads b n p = record b { verbs = b.verbs + n; points = b.points + 2 * n; pen = p }
 
-abbrev pub builder_at : ℕ → ℕ → Point → Point → Builder
-builder_at v p start pen = record { verbs = v; points = p; start = start; pen = pen }
-
--- what document 01 says of a conic's entries and joint word: one line to the target and 0, or the 1 to 64 quads of the halving and the starts of
--- their spans
+-- a conic's entries and its joint word: one line to the target and 0, or the 1 to 64 quads of the halving and the
+-- starts of their spans (docs/SPECIFICATION.md, "Conics, spans and joint words")
 pub data LineOrQuads (c : Conic) : List Entry → ℕ → Type 0 where
   one_line : is_line c ≡ true → LineOrQuads c (plain (Line c.to) ∷ []) 0
-  quads : is_line c ≡ false → WholeConic c (pieces_of c) → LineOrQuads c (map piece (pieces_of c)) (word_of (pieces_of c))
+  quads : is_line c ≡ false → WholeConic c (pieces_of c)
+      → LineOrQuads c (map piece (pieces_of c)) (word_of (pieces_of c))

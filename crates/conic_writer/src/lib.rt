@@ -7,9 +7,8 @@ ghost use Rattle.std.specs.Prelude.{◌≡◌, false, ◌∷◌, [], ◌+◌, �
 ghost use Rattle.conic.specs.Conic.{flat_of};
 ghost use Rattle.conic.specs.Vectors.{point_in, conic_in};
 ghost use Rattle.conic.specs.Halving.{is_one_quad, halve, word_of, pieces_of, count_of};
-ghost use Rattle.stream.specs.Stream.{put, all_floats, state, push, push_all, Fits};
-ghost use Rattle.conic_writer.specs.Entries.{elements_of, quads_of, lowered_of, plainly_written, builder_at};
-ghost use Rattle.conic_writer.specs.Quads.{HasRoom, Lowers};
+ghost use Rattle.stream.specs.Stream.{put, floats_in, bytes_of, all_floats, state, push, push_all, Fits, FitsOne};
+ghost use Rattle.conic_writer.specs.Entries.{elements_of, quads_of, lowered_of, plainly_written, after_quads};
 
 use conic::{Conic, Lowered, MAX_DEPTH};
 use geometry::Point;
@@ -50,7 +49,8 @@ struct Progress {
 #[inline(always)]
 fn put_quad(points: &mut [f32], at: usize, ctrl: f32x4, ends: f32x4)
     requires { 2 * (at + 2) ≤ length points.old }
-    ensures { points.new ≡ put points.old (2 * at) ((point_in ctrl 0).x ∷ (point_in ctrl 0).y ∷ (point_in ends 2).x ∷ (point_in ends 2).y ∷ []) }
+    ensures { points.new
+        ≡ put points.old (2 * at) (floats_in (point_in ctrl 0 ∷ point_in ends 2 ∷ [])) }
 {
     let i = 2 * at;
     let [x1, y1, x2, y2] = ctrl.shuffle(ends, [0, 1, 6, 7]).to_array();
@@ -60,21 +60,24 @@ fn put_quad(points: &mut [f32], at: usize, ctrl: f32x4, ends: f32x4)
     points[i + 3] = y2;
 }
 
-// A conic's only quad, as verb v and with its points from p on. The conic has the first point of `ctrl` and ends at the second one
-// of `ends`.
+// A conic's only quad, as verb v and with its points from p on. The conic has the first point of `ctrl` and
+// ends at the second one of `ends`.
 #[inline(always)]
 fn push_piece(v: usize, p: usize, verbs: &mut [u8], points: &mut [f32], ends: f32x4, ctrl: f32x4)
-    requires { (v < length verbs.old) × (2 * (p + 2) ≤ length points.old) }
-    ensures { (from pen : Point) → state (builder_at (v + 1) (p + 2) from (point_in ends 2)) verbs.new points.new ≡ push (state (builder_at v p from pen) verbs.old points.old) (Element.Quad (point_in ctrl 0) (point_in ends 2)) }
+    requires verb_room { v < length verbs.old }
+    requires point_room { 2 * (p + 2) ≤ length points.old }
+    ensures verbs_after { verbs.new ≡ put verbs.old v (2 ∷ []) }
+    ensures points_after { points.new
+        ≡ put points.old (2 * p) (floats_in (point_in ctrl 0 ∷ point_in ends 2 ∷ [])) }
 {
     verbs[v] = 2;
     put_quad(points, p, ctrl, ends);
 }
 
-// The quads of a conic, their points from point `at` on, and the bits where they start; `one` tells whether it is one.
-// Halving calls itself, twice for each split, with the depth still allowed falling from 6. Most often both halves are
-// one quad each: then neither call is made. The conic runs from and to the points in `ends`; `ctrl` begins with its control.
-// The place and the word come and go by value, and so stay in registers.
+// The quads of a conic, their points from point `at` on, and the bits where they start; `one` says whether it is
+// one. Halving calls itself, twice for each split, with the depth still allowed falling from 6. The conic runs
+// from and to the points in `ends`; `ctrl` begins with its control. The place and the word come and go by value,
+// and so stay in registers.
 fn push_conic(
     points: &mut [f32],
     at: usize,
@@ -86,9 +89,17 @@ fn push_conic(
     start: usize,
     one: bool,
 ) -> Progress
-    requires { (one ≡ is_one_quad depth (conic_in ends ctrl w)) × (depth ≤ 6) × (start + 2 ^ depth ≤ 64) × HasRoom (halve depth (conic_in ends ctrl w) start) points.old at word }
-    ensures points_after { points.new ≡ put points.old (2 * at) (all_floats (quads_of (halve depth (conic_in ends ctrl w) start))) }
-    ensures at_after { (result.at ≡ at + 2 * length (halve depth (conic_in ends ctrl w) start)) × (result.word ≡ word + word_of (halve depth (conic_in ends ctrl w) start)) }
+    requires one_quad { one ≡ is_one_quad depth (conic_in ends ctrl w) }
+    requires falling { depth ≤ 6 }
+    requires span { start + 2 ^ depth ≤ 64 }
+    requires point_room { 2 * (at + 2 * length (halve depth (conic_in ends ctrl w) start))
+        ≤ length points.old }
+    requires bit_room { word + word_of (halve depth (conic_in ends ctrl w) start) < 2 ^ 64 }
+    ensures points_after { points.new
+        ≡ put points.old (2 * at)
+        (all_floats (quads_of (halve depth (conic_in ends ctrl w) start))) }
+    ensures at_after { result.at ≡ at + 2 * length (halve depth (conic_in ends ctrl w) start) }
+    ensures word_after { result.word ≡ word + word_of (halve depth (conic_in ends ctrl w) start) }
 {
     if one {
         put_quad(points, at, ctrl, ends);
@@ -104,30 +115,14 @@ fn push_conic(
     let l = last | near.left;
     let r = last | near.right;
     let next = start + (1 << d);
-    if l & r {
-        put_quad(points, at, h.ctrls, h.left);
-        put_quad(points, at + 2, right_ctrl, h.right);
-        let word = word + (1 << start) + (1 << next);
-        return Progress { at: at + 4, word };
-    }
     let mid = push_conic(points, at, word, h.left, h.ctrls, u, d, start, l);
     push_conic(points, mid.at, mid.word, h.right, right_ctrl, u, d, next, r)
 }
 
-// Four quads as verbs from v on.
-fn fill_four(verbs: &mut [u8], v: usize)
-    requires { v + 4 ≤ length verbs.old }
-    ensures { verbs.new ≡ put verbs.old v (replicate 4 2) }
-{
-    verbs[v] = 2;
-    verbs[v + 1] = 2;
-    verbs[v + 2] = 2;
-    verbs[v + 3] = 2;
-}
-
-// At most four.
+// At most four quads as verbs from v on.
 fn fill_few(verbs: &mut [u8], v: usize, n: usize)
-    requires { (n ≤ 4) × (v + n ≤ length verbs.old) }
+    requires few { n ≤ 4 }
+    requires verb_room { v + n ≤ length verbs.old }
     ensures { verbs.new ≡ put verbs.old v (replicate n 2) }
 {
     if n == 0 {
@@ -148,33 +143,24 @@ fn fill_few(verbs: &mut [u8], v: usize, n: usize)
     verbs[v + 3] = 2;
 }
 
-// Any number of them.
-fn fill_many(verbs: &mut [u8], v: usize, n: usize)
-    requires { v + n ≤ length verbs.old }
-    ensures { verbs.new ≡ put verbs.old v (replicate n 2) }
-{
-    verbs[v..v + n].fill(2);
-}
-
-// The same. The compiler makes a call of the loop, which costs more than the few bytes that most conics have.
+// Any number of quads as verbs from v on. For more than a few it is a call of the library, which costs more than
+// the few bytes that most conics have.
 fn fill_quads(verbs: &mut [u8], v: usize, n: usize)
     requires { v + n ≤ length verbs.old }
     ensures { verbs.new ≡ put verbs.old v (replicate n 2) }
 {
-    if n < 4 {
+    if n <= 4 {
         fill_few(verbs, v, n);
-        return;
-    }
-    if n <= 8 {
-        fill_four(verbs, v);
+    } else if n <= 8 {
+        fill_few(verbs, v, 4);
         fill_few(verbs, v + 4, n - 4);
-        return;
+    } else {
+        verbs[v..v + n].fill(2);
     }
-    fill_many(verbs, v, n);
 }
 
-// The quads of a conic that is more than one, as verbs from v on and points from p on. Compiled in place in both of its
-// callers, each of which is compiled apart.
+// The quads of a conic that is more than one, as verbs from v on and points from p on. Compiled in place in both
+// of its callers, each of which is compiled apart.
 #[inline(always)]
 fn push_curve(
     v: usize,
@@ -185,9 +171,15 @@ fn push_curve(
     ctrl: f32x4,
     w: f32,
 ) -> Marks
-    requires { (flat_of (conic_in ends ctrl w) ≡ false) × (v + count_of (conic_in ends ctrl w) ≤ length verbs.old) × (2 * (p + 2 * count_of (conic_in ends ctrl w)) ≤ length points.old) }
-    ensures quads_after { Lowers result.count v p (conic_in ends ctrl w) verbs.old points.old verbs.new points.new }
-    ensures word_value { result.word ≡ word_of (pieces_of (conic_in ends ctrl w)) }
+    requires curved { flat_of (conic_in ends ctrl w) ≡ false }
+    requires verb_room { v + count_of (conic_in ends ctrl w) ≤ length verbs.old }
+    requires point_room { 2 * (p + 2 * count_of (conic_in ends ctrl w)) ≤ length points.old }
+    ensures verbs_after { verbs.new
+        ≡ put verbs.old v (bytes_of (quads_of (pieces_of (conic_in ends ctrl w)))) }
+    ensures points_after { points.new
+        ≡ put points.old (2 * p) (all_floats (quads_of (pieces_of (conic_in ends ctrl w)))) }
+    ensures count { result.count ≡ count_of (conic_in ends ctrl w) }
+    ensures word { result.word ≡ word_of (pieces_of (conic_in ends ctrl w)) }
 {
     let end = push_conic(points, p, 0, ends, ctrl, w, MAX_DEPTH, 0, false);
     let count = (end.at - p) / 2;
@@ -198,9 +190,10 @@ fn push_curve(
     }
 }
 
-// The quads of a conic as verbs from v on and points from p on, for which there is room, and how many they are. Compiled
-// apart. Neither start nor pen of a record has a part in it. What comes and goes are vectors and numbers, which stay in
-// registers: a record of floats would be stored one by one and read two by two, for which a processor waits.
+// The quads of a conic as verbs from v on and points from p on, for which there is room, and how many they are.
+// Compiled apart. Neither start nor pen of a record has a part in it. What comes and goes are vectors and numbers,
+// which stay in registers: a record of floats would be stored one by one and read two by two, for which a
+// processor waits.
 #[inline(never)]
 fn push_quads(
     v: usize,
@@ -211,8 +204,13 @@ fn push_quads(
     ctrl: f32x4,
     w: f32,
 ) -> usize
-    requires { (v + count_of (conic_in ends ctrl w) ≤ length verbs.old) × (2 * (p + 2 * count_of (conic_in ends ctrl w)) ≤ length points.old) }
-    ensures { Lowers result v p (conic_in ends ctrl w) verbs.old points.old verbs.new points.new }
+    requires verb_room { v + count_of (conic_in ends ctrl w) ≤ length verbs.old }
+    requires point_room { 2 * (p + 2 * count_of (conic_in ends ctrl w)) ≤ length points.old }
+    ensures verbs_after { verbs.new
+        ≡ put verbs.old v (bytes_of (quads_of (pieces_of (conic_in ends ctrl w)))) }
+    ensures points_after { points.new
+        ≡ put points.old (2 * p) (all_floats (quads_of (pieces_of (conic_in ends ctrl w)))) }
+    ensures count { result ≡ count_of (conic_in ends ctrl w) }
 {
     let c = conic::of_vectors(ends, ctrl, w);
     if conic::is_flat(c) {
@@ -224,20 +222,20 @@ fn push_quads(
 
 // The record behind so many quads, the last of which ends at `to`.
 fn after_quads(b: Builder, count: usize, to: Point) -> Builder
-    requires { (b.verbs + count < 2 ^ 64) × (b.points + 2 * count < 2 ^ 64) }
-    ensures { result ≡ record { verbs = b.verbs + count; points = b.points + 2 * count; start = b.start; pen = to } }
+    requires verbs { b.verbs + count < 2 ^ 64 }
+    requires points { b.points + 2 * count < 2 ^ 64 }
+    ensures { result ≡ after_quads b count to }
 {
-    let start = b.start;
     Builder {
         verbs: b.verbs + count,
         points: b.points + 2 * count,
-        start: start,
         pen: to,
+        ..b
     }
 }
 
-/// A conic's only quad behind the held elements, for which there is room. The conic comes as vectors: the points of an element would
-/// be packed into words and taken apart again.
+/// A conic's only quad behind the held elements, for which there is room. The conic comes as vectors: the
+/// points of an element would be packed into words and taken apart again.
 pub fn push_single(
     b: Builder,
     verbs: &mut [u8],
@@ -245,16 +243,17 @@ pub fn push_single(
     ends: f32x4,
     ctrl: f32x4,
 ) -> Builder
-    requires { (b.verbs < length verbs.old) × (2 * (b.points + 2) ≤ length points.old) }
-    ensures { state result verbs.new points.new ≡ push (state b verbs.old points.old) (Element.Quad (point_in ctrl 0) (point_in ends 2)) }
+    requires { FitsOne b verbs.old points.old (Element.Quad (point_in ctrl 0) (point_in ends 2)) }
+    ensures { state result verbs.new points.new
+        ≡ push (state b verbs.old points.old) (Element.Quad (point_in ctrl 0) (point_in ends 2)) }
 {
     push_piece(b.verbs, b.points, verbs, points, ends, ctrl);
     let [_, _, x, y] = ends.to_array();
     after_quads(b, 1, Point { x, y })
 }
 
-/// The quads of a conic that is more than one, behind the held elements, for which there is room, with their joint word.
-/// The conic comes as numbers and vectors for the same reason.
+/// The quads of a conic that is more than one, behind the held elements, for which there is room, with their
+/// joint word. The conic comes as numbers and vectors for the same reason.
 pub fn push_split(
     b: Builder,
     verbs: &mut [u8],
@@ -263,8 +262,10 @@ pub fn push_split(
     ctrl: f32x4,
     w: f32,
 ) -> Written
-    requires { (flat_of (conic_in ends ctrl w) ≡ false) × Fits b verbs.old points.old (quads_of (pieces_of (conic_in ends ctrl w))) }
-    ensures points_after { state result.builder verbs.new points.new ≡ push_all (state b verbs.old points.old) (quads_of (pieces_of (conic_in ends ctrl w))) }
+    requires curved { flat_of (conic_in ends ctrl w) ≡ false }
+    requires room { Fits b verbs.old points.old (quads_of (pieces_of (conic_in ends ctrl w))) }
+    ensures points_after { state result.builder verbs.new points.new
+        ≡ push_all (state b verbs.old points.old) (quads_of (pieces_of (conic_in ends ctrl w))) }
     ensures word_value { result.word ≡ word_of (pieces_of (conic_in ends ctrl w)) }
 {
     let m = push_curve(b.verbs, b.points, verbs, points, ends, ctrl, w);
@@ -275,10 +276,12 @@ pub fn push_split(
     }
 }
 
-/// What a conic is lowered to, behind the held elements, for which there is room, where nobody asks for the joint word.
+/// What a conic is lowered to, behind the held elements, for which there is room, where nobody asks for the
+/// joint word.
 pub fn push_unmarked(b: Builder, verbs: &mut [u8], points: &mut [f32], l: Lowered) -> Builder
     requires { Fits b verbs.old points.old (elements_of (lowered_of l)) }
-    ensures { state result verbs.new points.new ≡ push_all (state b verbs.old points.old) (elements_of (lowered_of l)) }
+    ensures { state result verbs.new points.new
+        ≡ push_all (state b verbs.old points.old) (elements_of (lowered_of l)) }
 {
     match l {
         Lowered::Line(p) => stream::push(b, verbs, points, Element::Line(p)),

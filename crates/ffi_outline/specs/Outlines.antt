@@ -12,14 +12,14 @@ use Rattle.outline.specs.declared.BuildingCall.TheVariants.{AddTo}
 use Rattle.outline.specs.Step.{step}
 use Rattle.consistency.specs.Inspection.{consistent_of}
 use Rattle.ffi_shape.specs.Layout.{shape_at, bounds_at}
-use Rattle.ffi_path.specs.Lent.{builder_at, fitting, wrong_length, Left, left, lent_by}
+use Rattle.ffi_path.specs.Lent.{builder_at, fitting, wrong_length, PathAnswer, path_answer, lent_by}
 
 -- the outline of a shape drawn into a record: number, record and buffers as of the other six calls
-abbrev pub outlined : List Float → List ℕ → List Float → List ℕ → List Float → Left
+abbrev pub outlined : List Float → List ℕ → List Float → List ℕ → List Float → PathAnswer
 outlined shape counts places vs fs = lent_by (λ (s : State). step s (AddTo (shape_at shape))) counts places vs fs
 
-unfoldable pub add_of : List Float → List ℕ → List Float → List ℕ → List Float → Left
-add_of shape counts places vs fs = if length shape == 89 then outlined shape counts places vs fs else left wrong_length counts places vs fs
+unfoldable pub add_of : List Float → List ℕ → List Float → List ℕ → List Float → PathAnswer
+add_of shape counts places vs fs = if length shape == 89 then outlined shape counts places vs fs else path_answer wrong_length counts places vs fs
 
 -- the number that is returned, and what is in the slice lent for a need
 pub record Needed : Type 0 where

@@ -6,14 +6,14 @@
 
 ghost use Rattle.std.specs.Prelude.{◌≡◌, length};
 ghost use Rattle.octant.specs.Octant.{point};
-ghost use Rattle.ffi_path.specs.Lent.{left};
+ghost use Rattle.ffi_path.specs.Lent.{path_answer};
 ghost use Rattle.ffi_outline.specs.Outlines.{add_of, needed, numbers_of, outline_need_of, conic_need_of, consistency_of};
 
 use calls::Call;
+use conic_writer::Written;
 use ffi_floats::WRONG_LENGTH;
 use ffi_shape::{SHAPE_LENGTH, SIZES_LENGTH};
 use geometry::Point;
-use conic_writer::Written;
 use stream::Need;
 
 const NEED_LENGTH: usize = 2;
@@ -26,7 +26,7 @@ pub fn shackletongue_add_to(
     verbs: &mut [u8],
     points: &mut [f32],
 ) -> u32
-    ensures { left result counts.new places.new verbs.new points.new ≡ add_of shape.now counts.old places.old verbs.old points.old }
+    ensures { path_answer result counts.new places.new verbs.new points.new ≡ add_of shape.now counts.old places.old verbs.old points.old }
 {
     let Some(shape) = shape.as_array::<SHAPE_LENGTH>() else {
         return WRONG_LENGTH;
@@ -35,7 +35,7 @@ pub fn shackletongue_add_to(
         return WRONG_LENGTH;
     };
     let a = outline::add_to(ffi_shape::shape_at(shape), b, verbs, points);
-    ffi_path::settle(counts, places, a.map(Written::from))
+    ffi_path::store_answer(counts, places, a.map(Written::from))
 }
 
 fn store_need(need: &mut [u64], n: Need)

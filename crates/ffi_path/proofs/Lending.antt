@@ -9,15 +9,19 @@ use lib.ListN.{length, drop}
 use lib.Seq.{sets, sets-eq, drop-length}
 use lib.Dec.{eqb}
 use lib.Ieee.{Float}
+use Rattle.std.specs.Prelude.{MatchResult, IsOkAnd}
 use Rattle.std.proofs.Common.{Option, Some, None, Result, Err}
+use Rattle.conic_writer.specs.Entries.{plainly_written}
 use Rattle.conic_writer.specs.declared.Written.{Written}
 use Rattle.stream.specs.declared.Builder.{Builder}
 use Rattle.stream.proofs.Tests.{and_left, and_right, and-false}
 use Rattle.stream.specs.Stream.{State, state}
 use Rattle.calls.specs.declared.BuildError.{BuildError}
 use Rattle.calls.specs.declared.BuildError.TheVariants.{BadRecord, NoRoom}
-use Rattle.calls.specs.Calls.{Outcome, number_of, refusal_of, conic_outcome_of}
-use Rattle.ffi_path.specs.Lent.{builder_at, record_in, fitting, Left, left, left_by, lent_by}
+use Rattle.calls.specs.declared.Call.{Call}
+use Rattle.calls.specs.Calls.{Outcome, number_of, refusal_of, outcome_of, conic_outcome_of, step}
+use Rattle.calls.proofs.Opened.{no_word}
+use Rattle.ffi_path.specs.Lent.{builder_at, record_in, fitting, HoldsRecord, from_record, PathAnswer, path_answer, answer_by, lent_by, lent_step}
 
 -- stores that fill a list
 pub filled {ℓ} : {A : Type ℓ} (l vs : List A) → length l ≡ length vs → sets l 0 vs ≡ vs
@@ -69,19 +73,47 @@ module _ (counts : List ℕ) (places : List Float) where
   as_record h k = rw (eq-eqb (length counts) 3 h, eq-eqb (length places) 4 k)
 
 -- a refusal leaves the record
-pub refusal_left : (e : BuildError) (n : ℕ) (counts : List ℕ) (places : List Float) (vs : List ℕ) (fs : List Float) → n ≡ number_of e → left n counts places vs fs ≡ left_by (refusal_of e vs fs) counts places
-unfolding left_by
+pub refusal_left : (e : BuildError) (n : ℕ) (counts : List ℕ) (places : List Float) (vs : List ℕ) (fs : List Float) → n ≡ number_of e → path_answer n counts places vs fs ≡ answer_by (refusal_of e vs fs) counts places
+unfolding answer_by
 refusal_left (BadRecord b) n counts places vs fs h = rw h
 refusal_left (NoRoom b) n counts places vs fs h = rw h
 
-pub bad_record_lem : (a : Result Written BuildError) (vs : List ℕ) (fs : List Float) (counts : List ℕ) (places : List Float) (b : Builder) → a ≡ Err (BadRecord b) → left 1 counts places vs fs ≡ left_by (conic_outcome_of a vs fs) counts places
-unfolding left_by
-bad_record_lem a vs fs counts places b e = rw e
+-- what is made of the record that was loaded
+module _ {X : Type 0} (counts : List ℕ) (places : List Float) (f : Builder → X) (wrong : X) (r : Option Builder) (loaded : r ≡ record_in counts places) where
+  pub with_none : r ≡ None → wrong ≡ from_record counts places f wrong
+  with_none e = rw (no_record counts places r loaded e)
+
+  pub with_some : (b : Builder) → r ≡ Some b → f b ≡ from_record counts places f wrong
+  with_some b e = let k = record_is counts places b r loaded e in rw k.fits (ap f k.builder)
 
 -- a call of any kind
 module _ (f : State → Outcome) (counts : List ℕ) (places : List Float) (vs : List ℕ) (fs : List Float) (r : Option Builder) (loaded : r ≡ record_in counts places) where
-  pub wrong_lengths : r ≡ None → left 100 counts places vs fs ≡ lent_by f counts places vs fs
-  wrong_lengths e = rw (no_record counts places r loaded e)
+  here : Builder → PathAnswer
+  here b = answer_by (f (state b vs fs)) counts places
 
-  pub lent : (b : Builder) (o : Outcome) (l : Left) → r ≡ Some b → o ≡ f (state b vs fs) → l ≡ left_by o counts places → l ≡ lent_by f counts places vs fs
-  lent b o l e eo el = let k = record_is counts places b r loaded e in rw (k.fits, ← k.builder, ← eo, el)
+  pub wrong_lengths : r ≡ None → path_answer 100 counts places vs fs ≡ lent_by f counts places vs fs
+  unfolding here
+  wrong_lengths = with_none counts places here (path_answer 100 counts places vs fs) r loaded
+
+  pub lent : (b : Builder) (o : Outcome) (l : PathAnswer) → r ≡ Some b → o ≡ f (state b vs fs) → l ≡ answer_by o counts places → l ≡ lent_by f counts places vs fs
+  unfolding here
+  lent b o l e eo el = el ∙ ap (λ (x : Outcome). answer_by x counts places) eo ∙ with_some counts places here (path_answer 100 counts places vs fs) r loaded b e
+
+-- one of the six
+module _ (c : Call) (counts : List ℕ) (places : List Float) (vs : List ℕ) (fs : List Float) (r : Option Builder) (loaded : r ≡ record_in counts places) where
+  pub step_wrong_lengths : r ≡ None → path_answer 100 counts places vs fs ≡ lent_step c counts places vs fs
+  unfolding lent_step
+  step_wrong_lengths = wrong_lengths (λ (s : State). step s c) counts places vs fs r loaded
+
+  module _ (b : Builder) (is : r ≡ Some b) where
+    pub holds_record : HoldsRecord counts places
+    holds_record = let k = record_is counts places b r loaded is in (k.counted, k.placed)
+
+    -- a conic, and a call that has no joint word
+    pub marked_step : (o : Outcome) (l : PathAnswer) → o ≡ step (state b vs fs) c → l ≡ answer_by o counts places → l ≡ lent_step c counts places vs fs
+    unfolding lent_step
+    marked_step o l = lent (λ (s : State). step s c) counts places vs fs r loaded b o l is
+
+    pub plain_step : (a : Result Builder BuildError) (w : Result Written BuildError) (ws : List ℕ) (gs : List Float) (l : PathAnswer) → outcome_of a ws gs ≡ step (state b vs fs) c
+        → MatchResult a (λ x. IsOkAnd w (λ y. y ≡ plainly_written x)) (λ e. w ≡ Err e) → l ≡ answer_by (conic_outcome_of w ws gs) counts places → l ≡ lent_step c counts places vs fs
+    plain_step a w ws gs l e m = marked_step (conic_outcome_of w ws gs) l (no_word a w ws gs m ∙ e)

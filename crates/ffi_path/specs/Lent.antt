@@ -1,5 +1,5 @@
--- A building call on a record that stands in lent numbers: three whole numbers, which are the verb count, the point count and a joint word, and four
--- floats, which are the contour's start and the pen. Definitions only.
+-- A building call on a record that stands in lent numbers: three whole numbers, which are the verb count, the point
+-- count and a joint word, and four floats, which are the contour's start and the pen. Definitions only.
 use Rattle.std.specs.Prelude.{◌≡◌, Bool, ◌&&◌, List, [], ◌∷◌, ℕ, length, get_or, Float, Option, Some, None, if◌then◌else◌, ◌==◌}
 use Rattle.std.specs.Float.{nan}
 use Rattle.geometry.specs.declared.Point.{Point}
@@ -37,9 +37,14 @@ fitting counts places = counts == 3 && places == 4
 abbrev pub HoldsRecord : List ℕ → List Float → Type 0
 HoldsRecord counts places = (length counts ≡ 3) × (length places ≡ 4)
 
+-- what is made of the record in slices that hold one, or else an answer for slices of a wrong length
+abbrev pub from_record : {X : Type 0} → List ℕ → List Float → (Builder → X) → X → X
+from_record counts places f wrong =
+    if fitting (length counts) (length places) then f (builder_at counts places) else wrong
+
 -- the record in slices, where they hold one
 unfoldable pub record_in : List ℕ → List Float → Option Builder
-record_in counts places = if fitting (length counts) (length places) then Some (builder_at counts places) else None
+record_in counts places = from_record counts places (λ b. Some b) None
 
 -- ---- what a call answers
 
@@ -48,30 +53,33 @@ abbrev pub wrong_length : ℕ
 wrong_length = 100
 
 -- the number that is returned, and what is in the four lent slices
-pub record Left : Type 0 where
+pub record PathAnswer : Type 0 where
   pub number : ℕ
   pub counts : List ℕ
   pub places : List Float
   pub verbs : List ℕ
   pub floats : List Float
 
-abbrev pub left : ℕ → List ℕ → List Float → List ℕ → List Float → Left
-left n counts places vs fs = record { number = n; counts = counts; places = places; verbs = vs; floats = fs }
+abbrev pub path_answer : ℕ → List ℕ → List Float → List ℕ → List Float → PathAnswer
+path_answer n counts places vs fs =
+    record { number = n; counts = counts; places = places; verbs = vs; floats = fs }
 
--- an accepted call leaves its record and its joint word, which is 0 where it has none; a refused one leaves every slice as it was
-unfoldable pub left_by : Outcome → List ℕ → List Float → Left
-left_by o counts places =
+-- an accepted call leaves its record and its joint word, which is 0 where it has none; a refused one leaves every
+-- slice as it was
+unfoldable pub answer_by : Outcome → List ℕ → List Float → PathAnswer
+answer_by o counts places =
     if o.number == 0
-    then left 0 (counts_of o.state.builder o.word) (places_of o.state.builder) o.state.verbs o.state.floats
-    else left o.number counts places o.state.verbs o.state.floats
+    then path_answer 0 (counts_of o.state.builder o.word) (places_of o.state.builder)
+    o.state.verbs o.state.floats
+    else path_answer o.number counts places o.state.verbs o.state.floats
 
 -- a call of any kind, given by what it makes of a state
-abbrev pub lent_by : (State → Outcome) → List ℕ → List Float → List ℕ → List Float → Left
+abbrev pub lent_by : (State → Outcome) → List ℕ → List Float → List ℕ → List Float → PathAnswer
 lent_by f counts places vs fs =
-    if fitting (length counts) (length places)
-    then left_by (f (state (builder_at counts places) vs fs)) counts places
-    else left wrong_length counts places vs fs
+    from_record counts places
+    (λ b. answer_by (f (state b vs fs)) counts places)
+    (path_answer wrong_length counts places vs fs)
 
 -- one of the six
-unfoldable pub lent_step : Call → List ℕ → List Float → List ℕ → List Float → Left
+unfoldable pub lent_step : Call → List ℕ → List Float → List ℕ → List Float → PathAnswer
 lent_step c counts places vs fs = lent_by (λ (s : State). step s c) counts places vs fs

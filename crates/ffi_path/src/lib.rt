@@ -1,18 +1,18 @@
 //! The building calls for programs in C and Rust: the record stands in numbers that the caller lends,
 //! three whole ones (verb count, point count, joint word) and four floats (the contour's start, the
-//! pen), beside the two buffers. Every call returns 0, or document 01's number, and then no slice has
+//! pen), beside the two buffers. Every call returns 0, or the number of its refusal, and then no slice has
 //! changed.
 
 #![tactic(auto)]
 
 ghost use Rattle.std.specs.Prelude.{◌≡◌, List, ℕ, Float};
 ghost use Rattle.calls.specs.Calls.{conic_outcome_of};
-ghost use Rattle.ffi_path.specs.Lent.{point, HoldsRecord, record_in, counts_of, places_of, left, left_by, lent_step};
+ghost use Rattle.ffi_path.specs.Lent.{point, HoldsRecord, record_in, counts_of, places_of, path_answer, answer_by, lent_step};
 
 use calls::{BuildError, Call};
+use conic_writer::Written;
 use ffi_floats::WRONG_LENGTH;
 use geometry::Point;
-use conic_writer::Written;
 use stream::Builder;
 
 /// The record in the lent numbers, where the slices have the lengths of one.
@@ -39,9 +39,11 @@ pub fn load(counts: &[u64], places: &[f32]) -> Option<Builder>
     })
 }
 
+// A record and its joint word to the lent numbers.
 fn store(counts: &mut [u64], places: &mut [f32], w: Written)
     requires { HoldsRecord counts.old places.old }
-    ensures { (counts.new ≡ counts_of w.builder w.word) × (places.new ≡ places_of w.builder) }
+    ensures counts { counts.new ≡ counts_of w.builder w.word }
+    ensures places { places.new ≡ places_of w.builder }
 {
     let b = w.builder;
     counts[0] = b.verbs as u64;
@@ -54,9 +56,11 @@ fn store(counts: &mut [u64], places: &mut [f32], w: Written)
 }
 
 /// The number of an answer. An accepted call's record and joint word go to the lent numbers.
-pub fn settle(counts: &mut [u64], places: &mut [f32], a: Result<Written, BuildError>) -> u32
+pub fn store_answer(counts: &mut [u64], places: &mut [f32], a: Result<Written, BuildError>) -> u32
     requires { HoldsRecord counts.old places.old }
-    ensures { (vs : List ℕ) (fs : List Float) → left result counts.new places.new vs fs ≡ left_by (conic_outcome_of a vs fs) counts.old places.old }
+    ensures { (vs : List ℕ) (fs : List Float)
+        → path_answer result counts.new places.new vs fs
+        ≡ answer_by (conic_outcome_of a vs fs) counts.old places.old }
 {
     match a {
         Ok(w) => {
@@ -67,8 +71,8 @@ pub fn settle(counts: &mut [u64], places: &mut [f32], a: Result<Written, BuildEr
     }
 }
 
-/// Six functions, and no generic one: C needs each with its own parameters, and what a closure lends is not known after its
-/// call where it may not have been called (tried).
+/// A move. Six functions, and no generic one: C needs each with its own parameters, and what a closure lends is not
+/// known after its call where it may not have been called (tried).
 pub fn shackletongue_move_to(
     counts: &mut [u64],
     places: &mut [f32],
@@ -77,15 +81,18 @@ pub fn shackletongue_move_to(
     x: f32,
     y: f32,
 ) -> u32
-    ensures { left result counts.new places.new verbs.new points.new ≡ lent_step (Call.MoveTo (point x y)) counts.old places.old verbs.old points.old }
+    ensures { path_answer result counts.new places.new verbs.new points.new
+        ≡ lent_step (Call.MoveTo (point x y))
+        counts.old places.old verbs.old points.old }
 {
     let Some(b) = load(counts, places) else {
         return WRONG_LENGTH;
     };
     let a = builder::move_to(b, verbs, points, Point { x, y }).map(Written::from);
-    settle(counts, places, a)
+    store_answer(counts, places, a)
 }
 
+/// A line.
 pub fn shackletongue_line_to(
     counts: &mut [u64],
     places: &mut [f32],
@@ -94,15 +101,18 @@ pub fn shackletongue_line_to(
     x: f32,
     y: f32,
 ) -> u32
-    ensures { left result counts.new places.new verbs.new points.new ≡ lent_step (Call.LineTo (point x y)) counts.old places.old verbs.old points.old }
+    ensures { path_answer result counts.new places.new verbs.new points.new
+        ≡ lent_step (Call.LineTo (point x y))
+        counts.old places.old verbs.old points.old }
 {
     let Some(b) = load(counts, places) else {
         return WRONG_LENGTH;
     };
     let a = builder::line_to(b, verbs, points, Point { x, y }).map(Written::from);
-    settle(counts, places, a)
+    store_answer(counts, places, a)
 }
 
+/// A quadratic with the control (cx, cy).
 pub fn shackletongue_quad_to(
     counts: &mut [u64],
     places: &mut [f32],
@@ -113,7 +123,9 @@ pub fn shackletongue_quad_to(
     x: f32,
     y: f32,
 ) -> u32
-    ensures { left result counts.new places.new verbs.new points.new ≡ lent_step (Call.QuadTo (point cx cy) (point x y)) counts.old places.old verbs.old points.old }
+    ensures { path_answer result counts.new places.new verbs.new points.new
+        ≡ lent_step (Call.QuadTo (point cx cy) (point x y))
+        counts.old places.old verbs.old points.old }
 {
     let Some(b) = load(counts, places) else {
         return WRONG_LENGTH;
@@ -121,10 +133,10 @@ pub fn shackletongue_quad_to(
     let a = builder::quad_to(b, verbs, points, Point { x: cx, y: cy }, Point { x, y }).map(
         Written::from,
     );
-    settle(counts, places, a)
+    store_answer(counts, places, a)
 }
 
-/// The joint word is the third of the counts.
+/// A conic with the control (cx, cy). The joint word is the third of the counts.
 pub fn shackletongue_conic_to(
     counts: &mut [u64],
     places: &mut [f32],
@@ -136,7 +148,9 @@ pub fn shackletongue_conic_to(
     y: f32,
     weight: f32,
 ) -> u32
-    ensures { left result counts.new places.new verbs.new points.new ≡ lent_step (Call.ConicTo (point cx cy) (point x y) weight) counts.old places.old verbs.old points.old }
+    ensures { path_answer result counts.new places.new verbs.new points.new
+        ≡ lent_step (Call.ConicTo (point cx cy) (point x y) weight)
+        counts.old places.old verbs.old points.old }
 {
     let Some(b) = load(counts, places) else {
         return WRONG_LENGTH;
@@ -149,9 +163,10 @@ pub fn shackletongue_conic_to(
         Point { x, y },
         weight,
     );
-    settle(counts, places, a)
+    store_answer(counts, places, a)
 }
 
+/// A cubic with the controls (ax, ay) and (bx, by).
 pub fn shackletongue_cubic_to(
     counts: &mut [u64],
     places: &mut [f32],
@@ -164,7 +179,9 @@ pub fn shackletongue_cubic_to(
     x: f32,
     y: f32,
 ) -> u32
-    ensures { left result counts.new places.new verbs.new points.new ≡ lent_step (Call.CubicTo (point ax ay) (point bx by) (point x y)) counts.old places.old verbs.old points.old }
+    ensures { path_answer result counts.new places.new verbs.new points.new
+        ≡ lent_step (Call.CubicTo (point ax ay) (point bx by) (point x y))
+        counts.old places.old verbs.old points.old }
 {
     let Some(b) = load(counts, places) else {
         return WRONG_LENGTH;
@@ -178,20 +195,23 @@ pub fn shackletongue_cubic_to(
         Point { x, y },
     )
     .map(Written::from);
-    settle(counts, places, a)
+    store_answer(counts, places, a)
 }
 
+/// A close.
 pub fn shackletongue_close(
     counts: &mut [u64],
     places: &mut [f32],
     verbs: &mut [u8],
     points: &mut [f32],
 ) -> u32
-    ensures { left result counts.new places.new verbs.new points.new ≡ lent_step Call.Close counts.old places.old verbs.old points.old }
+    ensures { path_answer result counts.new places.new verbs.new points.new
+        ≡ lent_step Call.Close
+        counts.old places.old verbs.old points.old }
 {
     let Some(b) = load(counts, places) else {
         return WRONG_LENGTH;
     };
     let a = builder::close(b, verbs, points).map(Written::from);
-    settle(counts, places, a)
+    store_answer(counts, places, a)
 }

@@ -3,10 +3,11 @@
 
 #![tactic(auto)]
 
-ghost use Rattle.std.specs.Prelude.{◌≡◌, List, ℕ, length};
-ghost use Rattle.reader.specs.Reading.{ok, item_of, answer_of};
-ghost use Rattle.reader.specs.Bounds.{bounds_answer};
-ghost use Rattle.ffi_reader.specs.Segments.{read, cursor_numbers, cursor_at, read_by, read_of, boxed, rect_floats, box_by, box_of};
+ghost use Rattle.std.specs.Prelude.{◌≡◌, ◌≤◌, List, Float, length};
+ghost use Rattle.stream.specs.Stream.{put};
+ghost use Rattle.reader.specs.Reading.{item_of, reading_of, floats_from};
+ghost use Rattle.reader.specs.Bounds.{bounds_reading};
+ghost use Rattle.ffi_reader.specs.Segments.{kind_of, read_answer, cursor_numbers, cursor_at, read_by, read_of, box_answer, rect_floats, box_by, box_of};
 
 use ffi_floats::{NONE, WRONG_LENGTH};
 use reader::{Cursor, ReadError, Rect, Segment};
@@ -20,34 +21,26 @@ const RECT_LENGTH: usize = 4;
 
 const PLACE_LENGTH: usize = 1;
 
-// The points of a segment go to the first floats; its kind is returned, a number because C reads it (include/shackletongue.h).
-fn store_segment(segment: &mut [f32], s: Segment) -> u64
-    requires { length segment.old ≡ 6 }
-    ensures { (d : Cursor) (cs : List ℕ) → read 0 (cursor_numbers d result) segment.new ≡ read_by (ok (item_of s d)) cs segment.old }
+// The kind of a segment, a number because C reads it (include/shackletongue.h).
+fn kind_of(s: Segment) -> u64
+    ensures { (d : Cursor) → result ≡ kind_of (item_of s d) }
 {
     match s {
-        Segment::Move(p) => {
-            stream::put_point(segment, 0, p);
-            0
-        }
-        Segment::Line(p) => {
-            stream::put_point(segment, 0, p);
-            1
-        }
-        Segment::Quad(p, q) => {
-            stream::put_point(segment, 0, p);
-            stream::put_point(segment, 2, q);
-            2
-        }
-        Segment::Cubic(p, q, r) => {
-            stream::put_point(segment, 0, p);
-            stream::put_point(segment, 2, q);
-            stream::put_point(segment, 4, r);
-            3
-        }
+        Segment::Move(_) => 0,
+        Segment::Line(_) => 1,
+        Segment::Quad(_, _) => 2,
+        Segment::Cubic(_, _, _) => 3,
         Segment::Close => 4,
         Segment::End => 5,
     }
+}
+
+// The floats that a segment consumes, to the first of the lent ones.
+fn store_part(segment: &mut [f32], part: &[f32])
+    requires { length part.now ≤ length segment.old }
+    ensures { segment.new ≡ put segment.old 0 part.now }
+{
+    segment[..part.len()].copy_from_slice(part);
 }
 
 fn store_cursor(cursor: &mut [u64], next: Cursor, kind: u64)
@@ -70,27 +63,24 @@ fn cursor_at(cursor: &[u64]) -> Cursor
     }
 }
 
-// The number of a reading. What was read goes to the lent numbers.
-fn settle_reading(
-    cursor: &mut [u64],
-    segment: &mut [f32],
-    a: Result<(Segment, Cursor), ReadError>,
-) -> u32
-    requires { (length cursor.old ≡ 3) × (length segment.old ≡ 6) }
-    ensures { read result cursor.new segment.new ≡ read_by (answer_of a) cursor.old segment.old }
+// The number of a reading, whose floats were stored. Its cursor and its kind go to the lent numbers.
+fn store_reading(cursor: &mut [u64], a: Result<(Segment, Cursor), ReadError>) -> u32
+    requires { length cursor.old ≡ 3 }
+    ensures { (floats : List Float)
+        → read_answer result cursor.new (put floats 0 (floats_from (reading_of a)))
+        ≡ read_by (reading_of a) cursor.old floats }
 {
     match a {
         Ok((s, next)) => {
-            let kind = store_segment(segment, s);
-            store_cursor(cursor, next, kind);
+            store_cursor(cursor, next, kind_of(s));
             0
         }
         Err(e) => u32::from(e.number()),
     }
 }
 
-/// Reads the segment at the cursor: 0, 1 or 6. The cursor moves to the next segment and gets the kind of
-/// this one (0 move, 1 line, 2 quad, 3 cubic, 4 close, 5 end).
+/// Reads the segment at the cursor: 0, 1 or 6. The part of the floats that it consumes is copied. The cursor moves
+/// to the next segment and gets the kind of this one (0 move, 1 line, 2 quad, 3 cubic, 4 close, 5 end).
 pub fn shackletongue_read(
     counts: &[u64],
     places: &[f32],
@@ -99,7 +89,8 @@ pub fn shackletongue_read(
     cursor: &mut [u64],
     segment: &mut [f32],
 ) -> u32
-    ensures { read result cursor.new segment.new ≡ read_of counts.now places.now verbs.now points.now cursor.old segment.old }
+    ensures { read_answer result cursor.new segment.new
+        ≡ read_of counts.now places.now verbs.now points.now cursor.old segment.old }
 {
     if cursor.len() != CURSOR_LENGTH {
         return WRONG_LENGTH;
@@ -110,8 +101,11 @@ pub fn shackletongue_read(
     let Some(b) = ffi_path::load(counts, places) else {
         return WRONG_LENGTH;
     };
-    let a = reader::read(b, verbs, points, cursor_at(cursor));
-    settle_reading(cursor, segment, a)
+    let at = cursor_at(cursor);
+    let part = reader::read_points(b, verbs, points, at);
+    store_part(segment, part);
+    let reading = reader::read(b, verbs, points, at);
+    store_reading(cursor, reading)
 }
 
 fn store_rect(rect: &mut [f32], r: Rect)
@@ -125,9 +119,10 @@ fn store_rect(rect: &mut [f32], r: Rect)
 }
 
 // The number of a box, or of none. A box goes to the lent floats.
-fn settle_box(rect: &mut [f32], place: &mut [u64], a: Result<Option<Rect>, ReadError>) -> u32
-    requires { (length rect.old ≡ 4) × (length place.old ≡ 1) }
-    ensures { boxed result rect.new place.new ≡ box_by (bounds_answer a) rect.old place.old }
+fn store_box(rect: &mut [f32], place: &mut [u64], a: Result<Option<Rect>, ReadError>) -> u32
+    requires rect { length rect.old ≡ 4 }
+    requires place { length place.old ≡ 1 }
+    ensures { box_answer result rect.new place.new ≡ box_by (bounds_reading a) rect.old place.old }
 {
     match a {
         Ok(Some(r)) => {
@@ -156,7 +151,8 @@ pub fn shackletongue_box(
     rect: &mut [f32],
     place: &mut [u64],
 ) -> u32
-    ensures { boxed result rect.new place.new ≡ box_of counts.now places.now verbs.now points.now rect.old place.old }
+    ensures { box_answer result rect.new place.new
+        ≡ box_of counts.now places.now verbs.now points.now rect.old place.old }
 {
     if rect.len() != RECT_LENGTH {
         return WRONG_LENGTH;
@@ -167,5 +163,5 @@ pub fn shackletongue_box(
     let Some(b) = ffi_path::load(counts, places) else {
         return WRONG_LENGTH;
     };
-    settle_box(rect, place, reader::bounds(b, verbs, points))
+    store_box(rect, place, reader::bounds(b, verbs, points))
 }

@@ -13,7 +13,7 @@ use Rattle.stream.specs.Stream.{State, verb_of, floats_of, size_of, sizes_of, po
 use Rattle.stream.proofs.Tests.{good_record}
 use Rattle.stream.proofs.Pushed.{count_verb_lem, sizes_append, sizes-one}
 use Rattle.reader.specs.declared.Cursor.{Cursor}
-use Rattle.reader.specs.Reading.{Answer, ok, refused, Item, item, end, cursor, element_at, read_at, prepend, follow, read_from, read_all, Reads, ends, more}
+use Rattle.reader.specs.Reading.{Reading, ok, refused, Item, item, end, cursor, element_at, read_at, prepend, follow, read_from, read_all, Reads, ends, more}
 use Rattle.reader.proofs.Reader.{View, bad, past, malformed, found, view, byte_at, read-from}
 use Rattle.reader.proofs.Parts.{take-drop, element_part, enough}
 use Rattle.stream.proofs.Lists.{bytes_append, floats_append, bytes_one, floats-one}
@@ -21,22 +21,22 @@ use Rattle.reader.proofs.Holding.{Holding, cursor_past}
 
 -- ---- what is read as a whole reads one by one
 
-prepended : (k x : Element) (a : Answer (List Element)) (xs : List Element) → prepend k a ≡ ok (x ∷ xs) → (a ≡ ok xs) × (k ≡ x)
+prepended : (k x : Element) (a : Reading (List Element)) (xs : List Element) → prepend k a ≡ ok (x ∷ xs) → (a ≡ ok xs) × (k ≡ x)
 prepended k x (ok ys) xs e = (cc, cc)
 prepended k x (refused r) xs e = let z : ◌≡◌ {A = ℕ} 0 1 = cc in absurd (omega arith)
 
-not_none : (k : Element) (a : Answer (List Element)) → prepend k a ≡ ok [] → ⊥
+not_none : (k : Element) (a : Reading (List Element)) → prepend k a ≡ ok [] → ⊥
 not_none k (ok ys) e = let z : ◌≡◌ {A = ℕ} 0 1 = cc in omega arith
 not_none k (refused r) e = let z : ◌≡◌ {A = ℕ} 0 1 = cc in omega arith
 
-none_go : (s : State) (c : Cursor) (a : Answer Item) → View s c a → read_at s c ≡ a → follow a (λ k d. prepend k (read_from s d)) ≡ ok [] → Reads s c []
+none_go : (s : State) (c : Cursor) (a : Reading Item) → View s c a → read_at s c ≡ a → follow a (λ k d. prepend k (read_from s d)) ≡ ok [] → Reads s c []
 none_go s c _ (bad e) q f = let z : ◌≡◌ {A = ℕ} 0 1 = cc in absurd (omega arith)
 none_go s c _ (past e h) q f = ends q
 none_go s c _ (malformed e h) q f = let z : ◌≡◌ {A = ℕ} 0 1 = cc in absurd (omega arith)
 none_go s c _ (found e h l m) q f = absurd (not_none (element_at (byte_at s c) s.floats c.point) (read_from s (cursor (c.verb + 1) (c.point + point_count (byte_at s c)))) f)
 
 more_go : (s : State) (c : Cursor) (x : Element) (xs : List Element) → ((d : Cursor) → read_from s d ≡ ok xs → Reads s d xs)
-    → (a : Answer Item) → View s c a → read_at s c ≡ a → follow a (λ k d. prepend k (read_from s d)) ≡ ok (x ∷ xs) → Reads s c (x ∷ xs)
+    → (a : Reading Item) → View s c a → read_at s c ≡ a → follow a (λ k d. prepend k (read_from s d)) ≡ ok (x ∷ xs) → Reads s c (x ∷ xs)
 more_go s c x xs next _ (bad e) q f = let z : ◌≡◌ {A = ℕ} 0 1 = cc in absurd (omega arith)
 more_go s c x xs next _ (past e h) q f = let z : ◌≡◌ {A = ℕ} 0 1 = cc in absurd (omega arith)
 more_go s c x xs next _ (malformed e h) q f = let z : ◌≡◌ {A = ℕ} 0 1 = cc in absurd (omega arith)
@@ -69,7 +69,7 @@ record Longer (s : State) (ks : List Element) (k : Element) (d : Cursor) : Type 
   prefix : Prefix s (ks ++ k ∷ [])
   next : d ≡ cursor_past (ks ++ k ∷ [])
 
-longer_go : (s : State) (ks : List Element) (a : Answer Item) → View s (cursor_past ks) a → Prefix s ks → (k : Element) (d : Cursor) → a ≡ ok (item k d) → Longer s ks k d
+longer_go : (s : State) (ks : List Element) (a : Reading Item) → View s (cursor_past ks) a → Prefix s ks → (k : Element) (d : Cursor) → a ≡ ok (item k d) → Longer s ks k d
 longer_go s ks _ (bad e) p k d q = let z : ◌≡◌ {A = ℕ} 0 1 = cc in absurd (omega arith)
 longer_go s ks _ (past e h) p k d q = let z : ◌≡◌ {A = ℕ} 0 1 = cc in absurd (omega arith)
 longer_go s ks _ (malformed e h) p k d q = let z : ◌≡◌ {A = ℕ} 0 1 = cc in absurd (omega arith)
@@ -109,7 +109,7 @@ record AtEnd (s : State) (c : Cursor) : Type 0 where
   good : bad_state s ≡ false
   none : s.builder.verbs ≤ c.verb
 
-end_go : (s : State) (c : Cursor) (a : Answer Item) → View s c a → (d : Cursor) → a ≡ ok (end d) → AtEnd s c
+end_go : (s : State) (c : Cursor) (a : Reading Item) → View s c a → (d : Cursor) → a ≡ ok (end d) → AtEnd s c
 end_go s c _ (bad e) d q = let z : ◌≡◌ {A = ℕ} 0 1 = cc in absurd (omega arith)
 end_go s c _ (past e h) d q = record { good = e; none = h }
 end_go s c _ (malformed e h) d q = let z : ◌≡◌ {A = ℕ} 0 1 = cc in absurd (omega arith)

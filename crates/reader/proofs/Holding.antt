@@ -18,7 +18,7 @@ use Rattle.stream.proofs.Past.{length-floats}
 use Rattle.stream.proofs.Lists.{bytes_append, floats_append, length-bytes, length_all, bytes_one, floats-one}
 use Rattle.stream.proofs.Pushed.{count_verb_lem, sizes_cons, sizes-one, sizes_append}
 use Rattle.reader.specs.declared.Cursor.{Cursor}
-use Rattle.reader.specs.Reading.{Answer, ok, Item, item, cursor, point_at, element_at, read_at, prepend, follow, read_from, Reads, ends, more}
+use Rattle.reader.specs.Reading.{Reading, ok, Item, item, cursor, point_at, element_at, read_at, prepend, follow, read_from, Reads, ends, more}
 use Rattle.reader.proofs.Reader.{read_past, read_found, read-from}
 
 -- ---- the counts are those of ks, and the first places hold them
@@ -178,5 +178,5 @@ reads_back {ks = ks} h = reads_from [] ks h
 
 -- what reads one by one is read as a whole
 pub reads_all : {s : State} {c : Cursor} {ks : List Element} → Reads s c ks → read_from s c ≡ ok ks
-reads_all {s} {c} (ends e) = read-from s c ∙ ap (λ (a : Answer Item). follow a (λ k d. prepend k (read_from s d))) e
-reads_all {s} {c} (more {d = d} {k = k} e r) = read-from s c ∙ ap (λ (a : Answer Item). follow a (λ k d. prepend k (read_from s d))) e ∙ ap (prepend k) (reads_all r)
+reads_all {s} {c} (ends e) = read-from s c ∙ ap (λ (a : Reading Item). follow a (λ k d. prepend k (read_from s d))) e
+reads_all {s} {c} (more {d = d} {k = k} e r) = read-from s c ∙ ap (λ (a : Reading Item). follow a (λ k d. prepend k (read_from s d))) e ∙ ap (prepend k) (reads_all r)

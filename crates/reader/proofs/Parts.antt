@@ -16,7 +16,7 @@ use Rattle.stream.proofs.Tests.{good_record}
 use Rattle.reader.specs.declared.Cursor.{Cursor}
 use Rattle.reader.specs.declared.Segment.{Segment}
 use Rattle.reader.specs.declared.Segment.TheVariants as segment
-use Rattle.reader.specs.Reading.{Answer, ok, Item, item, end, item_of, segment_of, point_at, element_at, read_at, part_of, part_at, floats_from, floats_at}
+use Rattle.reader.specs.Reading.{Reading, ok, Item, item, end, item_of, segment_of, point_at, element_at, read_at, part_of, part_at, floats_from, floats_at}
 use Rattle.reader.proofs.Reader.{View, bad, past, malformed, found, view, byte_at}
 use Rattle.std.proofs.Common.{Option}
 use Rattle.reader.specs.declared.Rect.{Rect}
@@ -57,7 +57,7 @@ element_part (suc (suc (suc (suc n)))) fs p l h = rw (add-zero, slice_empty)
 pub enough : (s : State) (c : Cursor) → bad_state s ≡ false → point_count (byte_at s c) ≤ s.builder.points - c.point → 2 * point_count (byte_at s c) ≤ length s.floats - 2 * c.point
 enough s c e k = omega (arith, good_record s.builder (length s.verbs) (length s.floats) e)
 
-part_go : (s : State) (c : Cursor) (a : Answer Item) → View s c a → part_of s.floats c a ≡ floats_from a
+part_go : (s : State) (c : Cursor) (a : Reading Item) → View s c a → part_of s.floats c a ≡ floats_from a
 part_go s c _ (bad e) = refl
 part_go s c _ (past e h) = refl
 part_go s c _ (malformed e h) = refl
@@ -68,7 +68,7 @@ unfolding part_at floats_at
 part_is s c = part_go s c (read_at s c) (view s c)
 
 -- what the code of the returned part has: from the cursor to the next one
-between_go : (s : State) (c : Cursor) (a : Answer Item) → View s c a → (i : Item) → a ≡ ok i → slice (2 * c.point) (2 * (next_of i).point) s.floats ≡ part_of s.floats c (ok i)
+between_go : (s : State) (c : Cursor) (a : Reading Item) → View s c a → (i : Item) → a ≡ ok i → slice (2 * c.point) (2 * (next_of i).point) s.floats ≡ part_of s.floats c (ok i)
 between_go s c _ (bad e) i q = let z : ◌≡◌ {A = ℕ} 0 1 = cc in absurd (omega arith)
 between_go s c _ (past e h) (item k d) q = let z : ◌≡◌ {A = ℕ} 0 1 = cc in absurd (omega arith)
 between_go s c _ (past e h) (end d) q = let z : c ≡ d = cc in ap (λ (x : Cursor). slice (2 * c.point) (2 * x.point) s.floats) (sym z) ∙ slice_empty (2 * c.point) s.floats
@@ -80,7 +80,7 @@ pub between : (s : State) (c : Cursor) (i : Item) → read_at s c ≡ ok i → s
 unfolding part_at
 between s c i q = between_go s c (read_at s c) (view s c) i q ∙ ap (part_of s.floats c) (sym q)
 
-within_go : (s : State) (c : Cursor) (a : Answer Item) → View s c a → (i : Item) → a ≡ ok i → c.point < (next_of i).point → 2 * (next_of i).point ≤ length s.floats
+within_go : (s : State) (c : Cursor) (a : Reading Item) → View s c a → (i : Item) → a ≡ ok i → c.point < (next_of i).point → 2 * (next_of i).point ≤ length s.floats
 within_go s c _ (bad e) i q g = let z : ◌≡◌ {A = ℕ} 0 1 = cc in absurd (omega arith)
 within_go s c _ (past e h) (item k d) q g = let z : ◌≡◌ {A = ℕ} 0 1 = cc in absurd (omega arith)
 within_go s c _ (past e h) (end d) q g = let z : c.point ≡ d.point = cc in absurd (omega arith)
@@ -107,14 +107,6 @@ item-is (Line p) d = refl
 item-is (Quad p q) d = refl
 item-is (Cubic p q r) d = refl
 item-is Close d = refl
-
-pub element_rest : (v : ℕ) (fs : List Float) (p : ℕ) → (v ≡ 0 → ⊥) → (v ≡ 1 → ⊥) → (v ≡ 2 → ⊥) → (v ≡ 3 → ⊥) → segment.Close ≡ segment_of (element_at v fs p)
-unfolding element_at
-element_rest zero fs p a b c d = absurd (a refl)
-element_rest (suc zero) fs p a b c d = absurd (b refl)
-element_rest (suc (suc zero)) fs p a b c d = absurd (c refl)
-element_rest (suc (suc (suc zero))) fs p a b c d = absurd (d refl)
-element_rest (suc (suc (suc (suc n)))) fs p a b c d = refl
 
 -- a segment widens an extent as its element does
 pub include_is : (e : Option Rect) (k : Segment) (d : Cursor) → include_segment e k ≡ fold_item include_element e (item_of k d)

@@ -8,17 +8,17 @@ use lib.Dec.{leb, ltb}
 use borrow.Author.Tests.{leb-true, leb-false, ltb-true, ltb-false, le-leb, lt-leb, le-ltb, lt-ltb}
 use Rattle.stream.specs.Stream.{State, point_count, bad_state}
 use Rattle.reader.specs.declared.Cursor.{Cursor}
-use Rattle.reader.specs.Reading.{Answer, ok, refused, with_record, at_verb, Item, item, end, cursor, element_at, read_at, prepend, follow, readings, read_from}
+use Rattle.reader.specs.Reading.{Reading, ok, refused, with_record, at_verb, Item, item, end, cursor, element_at, read_at, prepend, follow, readings, read_from}
 
 -- the byte at a cursor
 abbrev pub byte_at : State → Cursor → ℕ
 byte_at s c = get_or s.verbs c.verb 0
 
-abbrev pub item_at : State → Cursor → Answer Item
+abbrev pub item_at : State → Cursor → Reading Item
 item_at s c = ok (item (element_at (byte_at s c) s.floats c.point) (cursor (c.verb + 1) (c.point + point_count (byte_at s c))))
 
 -- each way, with what holds there
-pub data View (s : State) (c : Cursor) : Answer Item → Type 0 where
+pub data View (s : State) (c : Cursor) : Reading Item → Type 0 where
   bad : bad_state s ≡ true → View s c (refused (with_record 1 s.builder))
   past : bad_state s ≡ false → s.builder.verbs ≤ c.verb → View s c (ok (end c))
   malformed : bad_state s ≡ false → c.verb < s.builder.verbs → View s c (refused (at_verb 6 c.verb))
@@ -60,7 +60,7 @@ module _ (s : State) (c : Cursor) where
   view = view_go _ _ _ _ refl refl refl refl
 
   -- the elements from a cursor on are the one that is read there and those from the next cursor on
-  from_go : (a : Answer Item) → View s c a → follow a (λ k d. prepend k (readings (s.builder.verbs - c.verb) s d)) ≡ follow a (λ k d. prepend k (read_from s d))
+  from_go : (a : Reading Item) → View s c a → follow a (λ k d. prepend k (readings (s.builder.verbs - c.verb) s d)) ≡ follow a (λ k d. prepend k (read_from s d))
   from_go _ (bad e) = refl
   from_go _ (past e h) = refl
   from_go _ (malformed e h) = refl

@@ -4,11 +4,11 @@ use Rattle.std.proofs.Common.{Result, Ok, Err}
 use Rattle.reader.specs.declared.Segment.{Segment}
 use Rattle.reader.specs.declared.Cursor.{Cursor}
 use Rattle.reader.specs.declared.ReadError.{ReadError}
-use Rattle.reader.specs.Reading.{Refusal, refused, refusal_of, answer_of}
+use Rattle.reader.specs.Reading.{Refusal, refused, refusal_of, reading_of}
 
 pub record Refuses (x : Result (Segment × Cursor) ReadError) : Type 0 where
   pub refusal : Refusal
-  pub is : answer_of x ≡ refused refusal
+  pub is : reading_of x ≡ refused refusal
 
 pub no_item : (x : Result (Segment × Cursor) ReadError) → ((i : Segment × Cursor) → x ≡ Ok i → ⊥) → Refuses x
 no_item (Ok i) h = absurd (h i refl)

@@ -1,5 +1,5 @@
--- The least box round the points of all segments, controls included: points not finite are passed over, and of equal values the earlier stays.
--- Definitions only.
+-- The least box round the points of all segments, controls included: points not finite are passed over, and of equal
+-- values the earlier stays (docs/SPECIFICATION.md, "Box"). Definitions only.
 use Rattle.std.specs.Prelude.{List, [], ◌∷◌, Option, Some, None, Result, Ok, Err, if◌then◌else◌}
 use Rattle.ieee.specs.Basic.{min_of, max_of}
 use Rattle.geometry.specs.declared.Point.{Point}
@@ -9,7 +9,7 @@ use Rattle.reader.specs.declared.Segment.{Segment}
 use Rattle.reader.specs.declared.Rect.{Rect}
 use Rattle.reader.specs.declared.ReadError.{ReadError}
 use Rattle.stream.specs.Stream.{State, points_of}
-use Rattle.reader.specs.Reading.{Answer, ok, refused, refusal_of, Item, item, end, item_of, cursor, read_all, fold_read}
+use Rattle.reader.specs.Reading.{Reading, ok, refused, refusal_of, Item, item, end, item_of, cursor, read_all, fold_read}
 
 -- the box of the points seen, if any, with a finite one more
 unfoldable pub widen_of : Option Rect → Point → Option Rect
@@ -37,9 +37,9 @@ include_item e (end d) = e
 unfoldable pub include_segment : Option Rect → Segment → Option Rect
 include_segment e s = include_item e (item_of s (cursor 0 0))
 
-unfoldable pub bounds_of : State → Answer (Option Rect)
+unfoldable pub bounds_of : State → Reading (Option Rect)
 bounds_of s = fold_read include_element None (read_all s)
 
-abbrev pub bounds_answer : Result (Option Rect) ReadError → Answer (Option Rect)
-bounds_answer (Ok x) = ok x
-bounds_answer (Err e) = refused (refusal_of e)
+abbrev pub bounds_reading : Result (Option Rect) ReadError → Reading (Option Rect)
+bounds_reading (Ok x) = ok x
+bounds_reading (Err e) = refused (refusal_of e)

@@ -1,2 +1,3 @@
 pub mod Reading
 pub mod Bounds
+pub use Rattle.stream.specs.Stream

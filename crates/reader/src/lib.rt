@@ -5,8 +5,8 @@
 
 ghost use Rattle.std.specs.Prelude.{◌≡◌, ◌+◌, ◌-◌, ◌*◌, ◌≤◌, length, Some};
 ghost use Rattle.stream.specs.Stream.{byte_of, point_count, state};
-ghost use Rattle.reader.specs.Reading.{element_at, segment_of, number_of, refusal_text, read_at, answer_of, part_at, floats_at};
-ghost use Rattle.reader.specs.Bounds.{widen_of, include_of, include_segment, bounds_of, bounds_answer};
+ghost use Rattle.reader.specs.Reading.{element_at, segment_of, number_of, refusal_text, read_at, reading_of, part_at, floats_at};
+ghost use Rattle.reader.specs.Bounds.{widen_of, include_of, include_segment, bounds_of, bounds_reading};
 
 use geometry::Point;
 use std::error::Error;
@@ -20,6 +20,7 @@ pub struct Cursor {
     pub point: usize,
 }
 
+/// What is read at a cursor: an element, or the end.
 #[derive(Clone, Copy)]
 pub enum Segment {
     Move(Point),
@@ -33,19 +34,19 @@ pub enum Segment {
 /// The refusal of a reading.
 #[derive(Clone, Copy, Debug)]
 pub enum ReadError {
-    // Cause 1, with the same record: it does not suit the buffers.
+    /// 1, with the same record: it does not suit the buffers.
     BadRecord(Builder),
-    // Cause 6, with the verb's index: no such verb, or too few points for it.
+    /// 6, with the verb's index: no such verb, or too few points for it.
     Malformed(usize),
 }
 
 impl ReadError {
-    /// Document 01's number.
+    /// The refusal's number.
     pub fn number(self) -> u8
         ensures { result ≡ number_of self }
     {
         match self {
-            ReadError::BadRecord(_) => 1,
+            ReadError::BadRecord(_) => stream::BAD_RECORD,
             ReadError::Malformed(_) => 6,
         }
     }
@@ -56,7 +57,7 @@ impl fmt::Display for ReadError {
 
     fn fmt<W: fmt::Write>(&self, f: &mut fmt::Formatter<W>) -> fmt::Result {
         match self {
-            ReadError::BadRecord(_) => f.write_str("the record does not suit the buffers"),
+            ReadError::BadRecord(_) => f.write_str(stream::BAD_RECORD_TEXT),
             ReadError::Malformed(verb) => write!(f, "verb {verb} cannot be read"),
         }
     }
@@ -85,7 +86,8 @@ fn segment_at(verb: Verb, points: &[f32], at: usize) -> Segment
     }
 }
 
-/// The segment at c and the next cursor. Set in place where it is called: as a call of its own it costs half as much again.
+/// The segment at c and the next cursor. Compiled in place where it is called: as a call of its own it costs half
+/// as much again.
 #[inline(always)]
 pub fn read(
     b: Builder,
@@ -93,7 +95,7 @@ pub fn read(
     points: &[f32],
     c: Cursor,
 ) -> Result<(Segment, Cursor), ReadError>
-    ensures { answer_of result ≡ read_at (state b verbs.now points.now) c }
+    ensures { reading_of result ≡ read_at (state b verbs.now points.now) c }
 {
     if stream::bad_record(b, verbs.len(), points.len()) {
         return Err(ReadError::BadRecord(b));
@@ -117,9 +119,11 @@ pub fn read(
     Ok((segment_at(verb, points, p), next))
 }
 
-/// The part of the lent floats that the segment at c consumes: no copy.
+/// The part of the lent floats that the segment at c consumes: no copy. It is empty for a close, the end or a
+/// refusal.
 pub fn read_points<'a>(b: Builder, verbs: &[u8], points: &'a [f32], c: Cursor) -> &'a [f32]
-    ensures { (result.now ≡ part_at (state b verbs.now points.now) c) × (result.now ≡ floats_at (state b verbs.now points.now) c) }
+    ensures part { result.now ≡ part_at (state b verbs.now points.now) c }
+    ensures floats { result.now ≡ floats_at (state b verbs.now points.now) c }
 {
     let Ok((_, next)) = read(b, verbs, points, c) else {
         return &points[..0];
@@ -132,7 +136,8 @@ pub fn read_points<'a>(b: Builder, verbs: &[u8], points: &'a [f32], c: Cursor) -
     &points[..0]
 }
 
-/// Not the bounds of a shape, though it has the same fields: those are what a shape is asked for, and a stream knows no shape.
+/// The least box round points. Not the bounds of a shape, though it has the same fields: those are what a shape is
+/// asked for, and a stream knows no shape.
 #[derive(Drop)]
 pub struct Rect {
     pub min: Point,
@@ -190,15 +195,15 @@ fn include_segment(seen: Option<Rect>, s: Segment) -> Option<Rect>
 
 /// The least box round the points of all segments, controls included, if there are any that are finite.
 pub fn bounds(b: Builder, verbs: &[u8], points: &[f32]) -> Result<Option<Rect>, ReadError>
-    ensures { bounds_answer result ≡ bounds_of (state b verbs.now points.now) }
+    ensures { bounds_reading result ≡ bounds_of (state b verbs.now points.now) }
 {
     if stream::bad_record(b, verbs.len(), points.len()) {
         return Err(ReadError::BadRecord(b));
     }
     let mut seen = None;
     let mut c = Cursor { verb: 0, point: 0 };
-    // The cursor is no index: it goes on by a verb and by that verb's points. The `let .. else` is document 01's, which
-    // fixes that the loop takes the reader's answer apart so and answers 6 otherwise.
+    // The cursor is no index: it goes on by a verb and by that verb's points. The record suits the buffers, so what
+    // is refused here is refusal 6.
     while c.verb < b.verbs {
         let Ok((segment, next)) = read(b, verbs, points, c) else {
             return Err(ReadError::Malformed(c.verb));

@@ -2,7 +2,7 @@
 
 ghost use Rattle.std.specs.Prelude.{◌≡◌};
 ghost use Rattle.octant.specs.Octant.{point};
-ghost use Rattle.ffi_path.specs.Lent.{left};
+ghost use Rattle.ffi_path.specs.Lent.{path_answer};
 ghost use Rattle.ffi_outline.specs.Outlines.{add_of, needed, outline_need_of, conic_need_of, consistency_of};
 
 /// Draws the outline of a shape behind what the record holds: 0, 1 or 5. It has no joint word.
@@ -14,7 +14,7 @@ pub extern "C" fn shackletongue_add_to(
     verbs: &mut [u8],
     points: &mut [f32],
 ) -> u32
-    ensures { left result counts.new places.new verbs.new points.new ≡ add_of shape.now counts.old places.old verbs.old points.old }
+    ensures { path_answer result counts.new places.new verbs.new points.new ≡ add_of shape.now counts.old places.old verbs.old points.old }
 {
     ffi_outline::shackletongue_add_to(shape, counts, places, verbs, points)
 }

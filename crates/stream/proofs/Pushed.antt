@@ -77,14 +77,6 @@ pub verb_over : (n : ℕ) (r : Result Verb UnknownVerb) → r ≡ verb_in n → 
 verb_over n (Ok v) e h = absurd (h v refl)
 verb_over n (Err x) e h = over_go n x e
 
-pub count_rest : (v : ℕ) → (v ≡ 0 → ⊥) → (v ≡ 1 → ⊥) → (v ≡ 2 → ⊥) → (v ≡ 3 → ⊥) → 0 ≡ point_count v
-unfolding point_count
-count_rest zero a b c d = absurd (a refl)
-count_rest (suc zero) a b c d = absurd (b refl)
-count_rest (suc (suc zero)) a b c d = absurd (c refl)
-count_rest (suc (suc (suc zero))) a b c d = absurd (d refl)
-count_rest (suc (suc (suc (suc n)))) a b c d = refl
-
 -- what the code leaves is what `push` says
 pub pushed : (b r : Builder) (vs : List ℕ) (fs fs' : List Float) (k : Element) → b.verbs < length vs → r ≡ advance_of b k → fs' ≡ put fs (2 * b.points) (floats_of k)
     → state r (set vs b.verbs (verb_of k)) fs' ≡ push (state b vs fs) k

@@ -6,7 +6,8 @@ use native.Mathlib.Nat.{add-zero, add_assoc}
 use native.Mathlib.Numerals.{add-one}
 use native.Mathlib.Omega.{arith}
 use lib.ListN.{length, take, drop, set, length-append, take-append-drop, length-drop}
-use lib.Seq.{length-take-le, take_at, drop-append-add, drop-drop, sets-eq}
+use lib.Seq.{paste, length-take-le, take_at, drop-append-add, drop-drop, sets-eq}
+use Rattle.std.proofs.lemmas.List.Edits.{paste_all}
 use Rattle.stream.specs.Stream.{put}
 
 module _ {ℓ} {A : Type ℓ} where
@@ -56,3 +57,8 @@ module _ {ℓ} {A : Type ℓ} where
   pub take-grown : (l : List A) (i j k : ℕ) (vs old : List A) → i ≤ length l → take k l ≡ old → i ≡ k → j ≡ i + length vs → take j (put l i vs) ≡ old ++ vs
   take-grown l i j k vs old h p e f =
       ap (λ (x : ℕ). take x (put l i vs)) f ∙ (take_put l i vs h ∙ ap (λ (r : List A). r ++ vs) (ap (λ (x : ℕ). take x l) e ∙ p))
+
+-- what the library copies into a part
+pub put_paste : {A : Type 0} (l : List A) (i : ℕ) (vs : List A) (n : ℕ) → n ≡ length vs → paste l i vs n ≡ put l i vs
+unfolding put
+put_paste l i vs n e = paste_all l i vs n e ∙ ap (λ (k : ℕ). take i l ++ (vs ++ drop (i + k) l)) e ∙ sym (append_assoc (take i l) vs _)

@@ -1,5 +1,5 @@
--- A path in two lent buffers: a state is the record with the bytes and the floats lent. Elements are added behind the held ones, and what lies past
--- them keeps what it had. Definitions only.
+-- A path in two lent buffers: a state is the record with the bytes and the floats lent. Elements are added
+-- behind the held ones, and what lies past them keeps what it had. Definitions only.
 use Rattle.std.specs.Prelude.{List, [], ◌∷◌, ◌++◌, Bool, ◌&&◌, ◌||◌, ℕ, zero, suc, ◌+◌, ◌*◌, ◌/◌, ◌^◌, ◌<◌, ◌≤◌, length, get_or, take, drop, nat_le, nat_lt, Float, Result, Ok, Err, ◌==◌, codes}
 use Rattle.std.specs.Float.{binary32, nan}
 use Rattle.std.specs.Float.Ieee.{of_bits}
@@ -86,7 +86,15 @@ verb_in (suc (suc (suc zero))) = Ok verb.Cubic
 verb_in (suc (suc (suc (suc zero)))) = Ok verb.Close
 verb_in (suc (suc (suc (suc (suc n))))) = Err (record { byte = suc (suc (suc (suc (suc n)))) })
 
--- what is told of a byte that is no verb's, before the byte
+-- the text of a verb
+abbrev pub verb_text : Verb → List ℕ
+verb_text verb.Move = codes "move"
+verb_text verb.Line = codes "line"
+verb_text verb.Quad = codes "quad"
+verb_text verb.Cubic = codes "cubic"
+verb_text verb.Close = codes "close"
+
+-- the text of a byte that is no verb's, up to the byte
 abbrev pub no_verb_text : List ℕ
 no_verb_text = codes "no verb has the byte "
 
@@ -102,17 +110,23 @@ fresh_builder = record { verbs = 0; points = 0; start = origin; pen = origin }
 abbrev pub is_empty : Builder → Bool
 is_empty b = b.verbs == 0
 
--- cause 1, for buffers of vn bytes and fn floats: more verbs than places, more points than pairs of floats, or points with no verb
+-- refusal 1, for buffers of so many bytes and floats: more verbs than bytes, more points than pairs of
+-- floats, or points with no verb
 unfoldable pub bad_record : Builder → ℕ → ℕ → Bool
-bad_record b verb_room float_room = nat_lt verb_room b.verbs || nat_lt (float_room / 2) b.points || (b.verbs == 0 && nat_lt 0 b.points)
+bad_record b verb_room float_room =
+    nat_lt verb_room b.verbs || nat_lt (float_room / 2) b.points || (b.verbs == 0 && nat_lt 0 b.points)
 
--- what is told of it
+-- its number, and its text
+abbrev pub bad_record_number : ℕ
+bad_record_number = 1
+
 abbrev pub bad_record_text : List ℕ
 bad_record_text = codes "the record does not suit the buffers"
 
--- a verb per place, a point per whole pair of floats
+-- a verb per byte, a point per whole pair of floats
 unfoldable pub has_room : Builder → ℕ → ℕ → Need → Bool
-has_room b verb_room float_room n = nat_le (b.verbs + n.verbs) verb_room && nat_le (b.points + n.points) (float_room / 2)
+has_room b verb_room float_room n =
+    nat_le (b.verbs + n.verbs) verb_room && nat_le (b.points + n.points) (float_room / 2)
 
 abbrev pub need_of : List Element → Need
 need_of ks = record { verbs = length ks; points = sizes_of ks }
@@ -150,7 +164,12 @@ pen_after s p (k ∷ ks) = pen_after (start_of s k) (pen_of s k) ks
 
 -- the record after one element more
 unfoldable pub advance_of : Builder → Element → Builder
-advance_of b k = record { verbs = b.verbs + 1; points = b.points + size_of k; start = start_of b.start k; pen = pen_of b.start k }
+advance_of b k = record b {
+  verbs = b.verbs + 1;
+  points = b.points + size_of k;
+  start = start_of b.start k;
+  pen = pen_of b.start k;
+}
 
 -- ---- the state
 
@@ -172,7 +191,7 @@ unfoldable pub push_all : State → List Element → State
 push_all s [] = s
 push_all s (k ∷ ks) = push_all (push s k) ks
 
--- cause 1, of a state
+-- refusal 1, of a state
 abbrev pub bad_state : State → Bool
 bad_state s = bad_record s.builder (length s.verbs) (length s.floats)
 
@@ -180,6 +199,9 @@ bad_state s = bad_record s.builder (length s.verbs) (length s.floats)
 abbrev pub room_for : State → List Element → Bool
 room_for s ks = has_room s.builder (length s.verbs) (length s.floats) (need_of ks)
 
--- the same as a writer requires it
+-- the same as a writer requires it, of elements and of one
 abbrev pub Fits : Builder → List ℕ → List Float → List Element → Type 0
 Fits b vs fs ks = (b.verbs + length ks ≤ length vs) × (2 * (b.points + sizes_of ks) ≤ length fs)
+
+abbrev pub FitsOne : Builder → List ℕ → List Float → Element → Type 0
+FitsOne b vs fs k = (b.verbs < length vs) × (2 * (b.points + size_of k) ≤ length fs)

@@ -4,7 +4,7 @@
 #![tactic(auto)]
 
 ghost use Rattle.std.specs.Prelude.{◌≡◌, ◌∷◌, [], ◌++◌, ◌+◌, ◌*◌, ◌^◌, ◌<◌, ◌≤◌, length, Some, decimal};
-ghost use Rattle.stream.specs.Stream.{put, verb_in, no_verb_text, byte_of, verb_of, size_of, floats_in, floats_of, point_in, point_count, CanSum, sum_of, fresh_builder, is_empty, bad_record, has_room, advance_of, state, push};
+ghost use Rattle.stream.specs.Stream.{put, verb_in, verb_text, no_verb_text, byte_of, verb_of, size_of, floats_in, floats_of, point_in, point_count, CanSum, sum_of, fresh_builder, bad_record, has_room, advance_of, state, push, FitsOne};
 
 use geometry::Point;
 use std::error::Error;
@@ -12,8 +12,10 @@ use std::fmt;
 use std::ops::Add;
 
 /// How much of the buffers is held, the contour's start and the pen. Start and pen mean nothing while
-/// no verb is held. The counts stand apart: side by side they would be read as one, and the processor waits where
-/// two writes are read at once.
+/// no verb is held. What changes a record updates it, and names only the fields that change.
+///
+/// The counts stand apart: side by side they would be read as one, and a processor waits where two writes
+/// are read at once.
 #[derive(Clone, Copy, Debug)]
 pub struct Builder {
     pub verbs: usize,
@@ -22,8 +24,13 @@ pub struct Builder {
     pub pen: Point,
 }
 
-/// The byte of each element in the buffer of verbs: 0 to 4, in this order. In the buffer it stays a byte: document 01 fixes
-/// it so, and C lends bytes.
+/// The number of the refusal of a record that does not suit the buffers.
+pub const BAD_RECORD: u8 = 1;
+
+/// Its text.
+pub const BAD_RECORD_TEXT: &str = "the record does not suit the buffers";
+
+/// The kinds of element. In the buffer of verbs each is a byte, 0 to 4 in this order, since C lends bytes.
 #[derive(Clone, Copy, Debug, PartialEq, Eq)]
 pub enum Verb {
     Move,
@@ -31,6 +38,20 @@ pub enum Verb {
     Quad,
     Cubic,
     Close,
+}
+
+impl fmt::Display for Verb {
+    ghost output = { λ v. Some (verb_text v) };
+
+    fn fmt<W: fmt::Write>(&self, f: &mut fmt::Formatter<W>) -> fmt::Result {
+        f.write_str(match self {
+            Verb::Move => "move",
+            Verb::Line => "line",
+            Verb::Quad => "quad",
+            Verb::Cubic => "cubic",
+            Verb::Close => "close",
+        })
+    }
 }
 
 /// A byte over 4, which is no verb.
@@ -67,7 +88,8 @@ impl TryFrom<u8> for Verb {
 }
 
 impl Verb {
-    pub fn byte(self) -> u8
+    // Its byte in the buffer.
+    fn byte(self) -> u8
         ensures { result ≡ byte_of self }
     {
         match self {
@@ -94,14 +116,6 @@ impl Verb {
     }
 }
 
-/// How many points the verb of a byte consumes: a byte that is no verb's consumes none.
-#[tactic(auto, unfolding(crate::specs::Stream::point_count, crate::specs::Stream::verb_in))]
-pub fn point_count(verb: u8) -> usize
-    ensures { result ≡ point_count verb }
-{
-    Verb::try_from(verb).map_or(0, Verb::point_count)
-}
-
 /// What a path is made of.
 #[derive(Clone, Copy)]
 pub enum Element {
@@ -113,6 +127,7 @@ pub enum Element {
 }
 
 impl Element {
+    /// Its kind.
     pub fn verb(self) -> Verb
         ensures { byte_of result ≡ verb_of self }
     {
@@ -126,6 +141,7 @@ impl Element {
     }
 }
 
+/// How many verbs and points something adds.
 #[derive(Drop)]
 pub struct Need {
     pub verbs: usize,
@@ -147,6 +163,7 @@ impl Add for Need {
     }
 }
 
+/// The record of buffers in which nothing is held.
 pub fn new() -> Builder
     ensures { result ≡ fresh_builder }
 {
@@ -158,15 +175,9 @@ pub fn new() -> Builder
     }
 }
 
-pub fn is_empty(b: Builder) -> bool
-    ensures { result ≡ is_empty b }
-{
-    b.verbs == 0
-}
-
-/// Cause 1: the record does not suit buffers of these lengths. A division, since twice the point count
-/// may overflow. The lengths go one by one, here and in the calls above: each is the `len()` of a lent slice, and a struct of
-/// both would be made for one use.
+/// Refusal 1: the record does not suit buffers of these lengths. A division, since twice the point count
+/// may overflow. The lengths go one by one: each is the `len()` of a lent slice, and a struct of both would
+/// be made for one use.
 #[tactic(auto, unfolding(crate::specs::Stream::bad_record))]
 pub fn bad_record(b: Builder, verbs: usize, floats: usize) -> bool
     ensures { result ≡ bad_record b verbs floats }
@@ -203,42 +214,41 @@ pub fn has_room(b: Builder, verbs: usize, floats: usize, need: Need) -> bool
 // The record after one element more.
 #[tactic(auto, unfolding(crate::specs::Stream::advance_of))]
 fn advance(b: Builder, e: Element) -> Builder
-    requires { (b.verbs + 1 < 2 ^ 64) × (b.points + 3 < 2 ^ 64) }
+    requires verbs { b.verbs + 1 < 2 ^ 64 }
+    requires points { b.points + 3 < 2 ^ 64 }
     ensures { result ≡ advance_of b e }
 {
     let verbs = b.verbs + 1;
-    let points = b.points;
-    let start = b.start;
     match e {
         Element::Move(p) => Builder {
-            verbs: verbs,
-            points: points + 1,
+            verbs,
+            points: b.points + 1,
             start: p,
             pen: p,
+            ..b
         },
         Element::Line(p) => Builder {
-            verbs: verbs,
-            points: points + 1,
-            start: start,
+            verbs,
+            points: b.points + 1,
             pen: p,
+            ..b
         },
         Element::Quad(_, p) => Builder {
-            verbs: verbs,
-            points: points + 2,
-            start: start,
+            verbs,
+            points: b.points + 2,
             pen: p,
+            ..b
         },
         Element::Cubic(_, _, p) => Builder {
-            verbs: verbs,
-            points: points + 3,
-            start: start,
+            verbs,
+            points: b.points + 3,
             pen: p,
+            ..b
         },
         Element::Close => Builder {
-            verbs: verbs,
-            points: points,
-            start: start,
-            pen: start,
+            verbs,
+            pen: b.start,
+            ..b
         },
     }
 }
@@ -252,6 +262,7 @@ pub fn put_point(floats: &mut [f32], at: usize, p: Point)
     floats[at + 1] = p.y;
 }
 
+/// The point in the floats from `at` on.
 pub fn point_at(floats: &[f32], at: usize) -> Point
     requires { at + 2 ≤ length floats.now }
     ensures { result ≡ point_in floats.now at }
@@ -286,7 +297,7 @@ fn put_points(points: &mut [f32], at: usize, e: Element)
 
 /// One element behind the held ones, for which there is room.
 pub fn push(b: Builder, verbs: &mut [u8], points: &mut [f32], e: Element) -> Builder
-    requires { (b.verbs < length verbs.old) × (2 * (b.points + size_of e) ≤ length points.old) }
+    requires { FitsOne b verbs.old points.old e }
     ensures { state result verbs.new points.new ≡ push (state b verbs.old points.old) e }
 {
     verbs[b.verbs] = e.verb().byte();

@@ -44,7 +44,8 @@ pub ensure_started-o-requires : goal.ensure_started-o-requires
 ensure_started-o-requires c =
     let a = c.args in
     let n = need_is (opened_need (is_empty a.b) 1) c.opened_need.ensures (counted a.e c.point_count-size.ensures c.verb.ensures) in
-    omega (arith, one-room (state a.b a.verbs.now a.points.now) a.e _ _ _ n c.admit.ensures c.in_ok-admit.was)
+    let r = one-room (state a.b a.verbs.now a.points.now) a.e _ _ _ n c.admit.ensures c.in_ok-admit.was in
+    record { verb_room = omega (arith, r); point_room = omega (arith, r) }
 
 pub push-requires : goal.push-requires
 push-requires c =

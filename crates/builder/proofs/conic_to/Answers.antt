@@ -1,4 +1,4 @@
-use mathlib.Core.Path.{refl, sym, ap, ◌∙◌}
+use mathlib.Core.Path.{sym, ap, ◌∙◌}
 use mathlib.Core.List.{[], ◌∷◌, ◌++◌}
 use Rattle.conic.specs.declared.Conic.{Conic}
 use Rattle.conic.specs.declared.Lowered.{Lowered}
@@ -36,4 +36,4 @@ returns-else-is_flat c =
     let s : State = state a.b a.verbs.now a.points.now in
     let k = c.in-Curve.c in
     let e = ap lowered.Curve (of_pairs k _ _ c.ends-ends.ensures c.ctrl-ctrl.ensures) ∙ sym c.in-Curve.is in
-    c.split_to.ensures a.b refl ∙ ap (λ (l : Lowered). attempt s (opening (is_empty a.b) ++ lowered_of l)) e ∙ conic-step s a.ctrl a.to a.weight _ _ c.conic_from.ensures c.lower.ensures
+    c.split_to.ensures ∙ ap (λ (l : Lowered). attempt s (opening (is_empty a.b) ++ lowered_of l)) e ∙ conic-step s a.ctrl a.to a.weight _ _ c.conic_from.ensures c.lower.ensures

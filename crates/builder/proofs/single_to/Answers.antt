@@ -21,7 +21,8 @@ returns-in_err-admit c =
 pub ensure_started-o-requires : goal.ensure_started-o-requires
 ensure_started-o-requires c =
     let a = c.args in
-    omega (arith, one-room (state a.b a.verbs.now a.points.now) (Quad (point_in a.ctrl 0) (point_in a.ends 2)) _ _ _ c.opened_need.ensures c.admit.ensures c.in_ok-admit.was)
+    let r = one-room (state a.b a.verbs.now a.points.now) (Quad (point_in a.ctrl 0) (point_in a.ends 2)) _ _ _ c.opened_need.ensures c.admit.ensures c.in_ok-admit.was in
+    record { verb_room = omega (arith, r); point_room = omega (arith, r) }
 
 pub push_single-requires : goal.push_single-requires
 push_single-requires c =

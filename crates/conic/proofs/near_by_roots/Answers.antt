@@ -8,4 +8,8 @@ use Rattle.conic.proofs.near_by_roots.Goals as goal
 
 pub returns : goal.returns
 unfolding near_of
-returns c = rw (c.roots-lengths.ensures, four_lanes nan c.args.squares c.fits-squares.0) (first_lane _ _ _ _ ∙ both_first _ _, second_lane _ _ _ _ ∙ both_first _ _)
+returns c =
+    record {
+      left = rw (c.roots-lengths.ensures, four_lanes nan c.args.squares c.fits-squares.0) (first_lane _ _ _ _ ∙ both_first _ _);
+      right = rw (c.roots-lengths.ensures, four_lanes nan c.args.squares c.fits-squares.0) (second_lane _ _ _ _ ∙ both_first _ _);
+    }

@@ -1,12 +1,14 @@
-use mathlib.Core.Path.{◌≡◌, sym, ◌∙◌}
-use Prim.Native.Nat.{◌-◌, ◌/◌}
+use mathlib.Core.Path.{◌≡◌, sym, ap, ◌∙◌}
+use Prim.Native.Nat.{ℕ, ◌-◌, ◌/◌}
 use native.Mathlib.Omega.{arith}
 use lib.Dec.{lit≤}
-use lib.ListN.{length}
+use lib.ListN.{length, replicate}
 use Rattle.conic.specs.Vectors.{conic_in}
 use Rattle.conic.specs.Halving.{is_one_quad, pieces_of}
 use Rattle.conic.proofs.Whole.{halve-word}
-use Rattle.conic_writer.proofs.Writing.{count_is, whole-pushed}
+use Rattle.stream.specs.Stream.{put}
+use Rattle.conic_writer.proofs.Entries.{quads-bytes}
+use Rattle.conic_writer.proofs.Writing.{count_is}
 use Rattle.conic_writer.proofs.push_curve.Goals as goal
 
 pub push_conic-end-requires : goal.push_conic-end-requires
@@ -15,20 +17,26 @@ push_conic-end-requires c =
     let a = c.args in
     let k = conic_in a.ends a.ctrl a.w in
     let s = c.requires in
-    (sym s.0, lit≤ tt, lit≤ tt, (omega (arith, s.2, count_is k), omega (arith, halve-word 6 k 0 (lit≤ tt))))
+    record {
+      one_quad = sym s.curved;
+      falling = lit≤ tt;
+      span = lit≤ tt;
+      point_room = omega (arith, s.point_room, count_is k);
+      bit_room = omega (arith, halve-word 6 k 0 (lit≤ tt));
+    }
 
 pub fill_quads-requires : goal.fill_quads-requires
-fill_quads-requires c = omega (arith, c.requires.1, count_is (conic_in c.args.ends c.args.ctrl c.args.w), c.push_conic-end.ensures.at_after.0)
+fill_quads-requires c = omega (arith, c.requires.verb_room, count_is (conic_in c.args.ends c.args.ctrl c.args.w), c.push_conic-end.ensures.at_after)
 
 pub returns : goal.returns
 returns c =
     let a = c.args in
     let k = conic_in a.ends a.ctrl a.w in
-    let s = c.requires in
     let e = c.push_conic-end.ensures in
-    let n = count_is k in
-    let many : (c.push_conic-end.result.at - a.p) / 2 ≡ length (pieces_of k) = omega (arith, e.at_after.0) in
+    let many : (c.push_conic-end.result.at - a.p) / 2 ≡ length (pieces_of k) = omega (arith, e.at_after) in
     record {
-      quads_after = (whole-pushed a.v a.p _ k a.verbs.now _ a.points.now _ (omega (arith, s.1)) (omega (arith, s.2)) many c.fill_quads.ensures e.points_after, many);
-      word_value = e.at_after.1 ∙ omega arith;
+      verbs_after = c.fill_quads.ensures ∙ ap (λ (n : ℕ). put a.verbs.now a.v (replicate n 2)) many ∙ ap (put a.verbs.now a.v) (sym (quads-bytes (pieces_of k)));
+      points_after = e.points_after;
+      count = many ∙ sym (count_is k);
+      word = e.word_after ∙ omega arith;
     }

@@ -1,4 +1,6 @@
+use Rattle.stream.specs.Stream.{state, push, advance_of}
 use Rattle.conic_writer.proofs.push_single.Goals as goal
 
 pub returns : goal.returns
-returns c = rw c.after_quads.ensures (c.push_piece.ensures c.args.b.start c.args.b.pen)
+unfolding push advance_of
+returns c = let e = c.push_piece.ensures in λ i. state (c.after_quads.ensures i) (e.verbs_after i) (e.points_after i)

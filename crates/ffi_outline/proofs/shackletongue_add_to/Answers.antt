@@ -20,8 +20,8 @@ returns-in_default-load c =
     let a = c.args in
     drawn a.shape.now a.counts.now a.places.now a.verbs.now a.points.now _ c.in-Some.ensures.cases.long (wrong_lengths (λ (s : State). step s (AddTo (shape_at a.shape.now))) a.counts.now a.places.now a.verbs.now a.points.now _ c.load.ensures (search rules))
 
-pub settle-requires : goal.settle-requires
-settle-requires c =
+pub store_answer-requires : goal.store_answer-requires
+store_answer-requires c =
     let k = record_is _ _ _ _ c.load.ensures c.in-Some-load.is in
     (k.counted, k.placed)
 
@@ -31,4 +31,4 @@ returns c =
     let e = c.in-Some.ensures.cases in
     let shape = rw e.same at c.shape_at.ensures in
     let o = no_word c.add_to-a.result _ _ _ (search rules) ∙ c.add_to-a.ensures ∙ ap (λ (x : RoundSuperellipse). step (state c.in-Some-load.b a.verbs.now a.points.now) (AddTo x)) shape in
-    drawn a.shape.now a.counts.now a.places.now a.verbs.now a.points.now _ e.long (lent (λ (s : State). step s (AddTo (shape_at a.shape.now))) a.counts.now a.places.now a.verbs.now a.points.now _ c.load.ensures _ _ _ c.in-Some-load.is o (c.settle.ensures _ _))
+    drawn a.shape.now a.counts.now a.places.now a.verbs.now a.points.now _ e.long (lent (λ (s : State). step s (AddTo (shape_at a.shape.now))) a.counts.now a.places.now a.verbs.now a.points.now _ c.load.ensures _ _ _ c.in-Some-load.is o (c.store_answer.ensures _ _))

@@ -1,26 +1,16 @@
-use mathlib.Core.Path.{◌∙◌}
 use Rattle.std.proofs.Common.{rules}
-use Rattle.stream.specs.Stream.{State}
 use Rattle.calls.specs.declared.Call.TheVariants as call
-use Rattle.calls.specs.Calls.{step}
-use Rattle.calls.proofs.Opened.{no_word}
-use Rattle.ffi_path.specs.Lent.{point, lent_step}
-use Rattle.ffi_path.proofs.Lending.{record_is, lent, wrong_lengths}
+use Rattle.ffi_path.specs.Lent.{point}
+use Rattle.ffi_path.proofs.Lending.{step_wrong_lengths, holds_record, plain_step}
 use Rattle.ffi_path.proofs.shackletongue_quad_to.Goals as goal
 
 pub returns-in_default : goal.returns-in_default
-unfolding lent_step
-returns-in_default c =
-    let a = c.args in
-    wrong_lengths (λ (s : State). step s (call.QuadTo (point a.cx a.cy) (point a.x a.y))) a.counts.now a.places.now a.verbs.now a.points.now _ c.load.ensures (search rules)
+returns-in_default c = let a = c.args in step_wrong_lengths (call.QuadTo (point a.cx a.cy) (point a.x a.y)) a.counts.now a.places.now a.verbs.now a.points.now _ c.load.ensures (search rules)
 
-pub settle-requires : goal.settle-requires
-settle-requires c =
-    let k = record_is _ _ _ _ c.load.ensures c.in-Some.is in
-    (k.counted, k.placed)
+pub store_answer-requires : goal.store_answer-requires
+store_answer-requires c = let a = c.args in holds_record (call.QuadTo (point a.cx a.cy) (point a.x a.y)) a.counts.now a.places.now a.verbs.now a.points.now _ c.load.ensures _ c.in-Some.is
 
 pub returns : goal.returns
-unfolding lent_step
 returns c =
     let a = c.args in
-    lent (λ (s : State). step s (call.QuadTo (point a.cx a.cy) (point a.x a.y))) a.counts.now a.places.now a.verbs.now a.points.now _ c.load.ensures _ _ _ c.in-Some.is (no_word c.quad_to.result _ _ _ (search rules) ∙ c.quad_to.ensures) (c.settle.ensures _ _)
+    plain_step (call.QuadTo (point a.cx a.cy) (point a.x a.y)) a.counts.now a.places.now a.verbs.now a.points.now _ c.load.ensures _ c.in-Some.is c.quad_to.result _ _ _ _ c.quad_to.ensures (search rules) (c.store_answer.ensures _ _)

@@ -4,4 +4,7 @@ use Rattle.ffi_path.proofs.store.Goals as goal
 
 pub returns : goal.returns
 unfolding counts_of places_of
-returns c = (filled c.args.counts.now (counts_of c.args.w.builder c.args.w.word) c.requires.0, filled c.args.places.now (places_of c.args.w.builder) c.requires.1)
+returns c = record {
+  counts = filled c.args.counts.now (counts_of c.args.w.builder c.args.w.word) c.requires.0;
+  places = filled c.args.places.now (places_of c.args.w.builder) c.requires.1;
+}

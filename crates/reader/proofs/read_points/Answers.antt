@@ -13,9 +13,13 @@ use Rattle.reader.proofs.Refusals.{no_item}
 use Rattle.reader.proofs.read_points.Goals as goal
 use Rattle.reader.proofs.read_points.Goals.{Then-p-q}
 
--- the part is also the segment's floats
-both : (s : State) (c : Cursor) {l : List Float} → l ≡ part_at s c → (l ≡ part_at s c) × (l ≡ floats_at s c)
-both s c e = (e, e ∙ part_is s c)
+-- the part, which is also the segment's floats
+record Both (s : State) (c : Cursor) (l : List Float) : Type 0 where
+  part : l ≡ part_at s c
+  floats : l ≡ floats_at s c
+
+both : (s : State) (c : Cursor) {l : List Float} → l ≡ part_at s c → Both s c l
+both s c e = record { part = e; floats = e ∙ part_is s c }
 
 -- what lies between the cursor and the next is the part
 next_at_lem : (s : State) (c : Cursor) (k : Segment) (d : Cursor) → read_at s c ≡ ok (item_of k d) → take (2 * d.point - 2 * c.point) (drop (2 * c.point) s.floats) ≡ part_at s c
@@ -36,7 +40,8 @@ unfolding part_at
 returns-in_default c =
     let a = c.args in
     let r = no_item c.read.result c.in_default.not-Ok in
-    both (state a.b a.verbs.now a.points.now) a.c (ap (part_of a.points.now a.c) (sym r.is ∙ c.read.ensures))
+    let e = both (state a.b a.verbs.now a.points.now) a.c (ap (part_of a.points.now a.c) (sym r.is ∙ c.read.ensures)) in
+    record { part = e.part; floats = e.floats }
 
 pub overflow_mul-result : goal.overflow_mul-result
 overflow_mul-result c = omega (arith, fits c, c.well_formed)
@@ -53,7 +58,8 @@ slice_bounds-result-end-then-p-q c = omega (arith, fits c)
 pub returns-then-p-q : goal.returns-then-p-q
 returns-then-p-q c =
     let a = c.args in
-    both _ _ (next_at_lem (state a.b a.verbs.now a.points.now) a.c c.in-Ok.field-0-0 c.in-Ok.next (sym c.in-Ok.ensures))
+    let e = both _ _ (next_at_lem (state a.b a.verbs.now a.points.now) a.c c.in-Ok.field-0-0 c.in-Ok.next (sym c.in-Ok.ensures)) in
+    record { part = e.part; floats = e.floats }
 
 pub returns : goal.returns
 returns c =
@@ -61,4 +67,5 @@ returns c =
     let s = state a.b a.verbs.now a.points.now in
     let p = a.c.point in
     let z : 2 * c.in-Ok.next.point - 2 * p ≡ 0 = omega (arith, c.if-p-q.false) in
-    both _ _ (sym (ap (λ (n : ℕ). take n (drop (2 * p) s.floats)) z) ∙ next_at_lem s a.c c.in-Ok.field-0-0 c.in-Ok.next (sym c.in-Ok.ensures))
+    let e = both _ _ (sym (ap (λ (n : ℕ). take n (drop (2 * p) s.floats)) z) ∙ next_at_lem s a.c c.in-Ok.field-0-0 c.in-Ok.next (sym c.in-Ok.ensures)) in
+    record { part = e.part; floats = e.floats }
