@@ -19,7 +19,7 @@ use Rattle.reader.specs.Reading.{Answer, ok, refused, Item, item_of, segment_of,
 use Rattle.reader.specs.Bounds.{bounds_of, bounds_answer}
 use Rattle.reader.proofs.Parts.{item-is}
 use Rattle.ffi_shape.specs.Layout.{point_floats}
-use Rattle.ffi_shape.proofs.Storing.{grown}
+use Rattle.ffi_shape.proofs.Storing.{put-after_put}
 use Rattle.ffi_path.specs.Lent.{record_in}
 use Rattle.ffi_path.proofs.Lending.{filled, record_is, no_record}
 use Rattle.ffi_reader.specs.Segments.{Read, read, cursor_numbers, cursor_at, read_by, read_of, Boxed, boxed, rect_floats, box_by, box_of}
@@ -29,12 +29,12 @@ use Rattle.ffi_reader.specs.Segments.{Read, read, cursor_numbers, cursor_at, rea
 pub two-points : (l m₁ m₂ : List Float) (p q : Point) → m₁ ≡ put l 0 (point_floats p) → m₂ ≡ put m₁ 2 (point_floats q) → m₂ ≡ put l 0 (point_floats p ++ point_floats q)
 two-points l m₁ m₂ p q e₁ e₂ =
     let at : 0 ≤ length l = omega arith in
-    grown l m₁ m₂ 0 2 (point_floats p) (point_floats q) at refl e₁ e₂
+    put-after_put l m₁ m₂ 0 2 (point_floats p) (point_floats q) at refl e₁ e₂
 
 pub three-points : (l m₁ m₂ m₃ : List Float) (p q r : Point) → m₁ ≡ put l 0 (point_floats p) → m₂ ≡ put m₁ 2 (point_floats q) → m₃ ≡ put m₂ 4 (point_floats r) → m₃ ≡ put l 0 (point_floats p ++ point_floats q ++ point_floats r)
 three-points l m₁ m₂ m₃ p q r e₁ e₂ e₃ =
     let at : 0 ≤ length l = omega arith in
-    grown l m₂ m₃ 0 4 (point_floats p ++ point_floats q) (point_floats r) at refl (two-points l m₁ m₂ p q e₁ e₂) e₃
+    put-after_put l m₂ m₃ 0 4 (point_floats p ++ point_floats q) (point_floats r) at refl (two-points l m₁ m₂ p q e₁ e₂) e₃
 
 -- ---- an answer taken apart
 
