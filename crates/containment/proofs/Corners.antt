@@ -4,6 +4,7 @@ use mathlib.Core.Bool.{Bool, true, false, ◌&&◌}
 use mathlib.Core.List.{List}
 use lib.ListN.{get_or}
 use lib.Ieee.{Float, nan, eq, ne}
+use Rattle.std.proofs.Math.Bool.{and-true}
 use Rattle.geometry.specs.declared.Point.{Point}
 use Rattle.ieee.specs.Binary32 as binary32
 use Rattle.quadrant.specs.declared.Quadrant.{Quadrant}
@@ -11,10 +12,6 @@ use Rattle.quadrant.specs.Quadrant.{square_corner}
 use Rattle.containment.specs.Contains.{round_contains, norm_contains, corner_contains_of, contains_of}
 use Rattle.shape.specs.Layout.{quadrant_at, shape_at}
 use Rattle.containment.specs.Floats.{corners_hold}
-
-and-true : (b : Bool) → (b && true) ≡ b
-and-true true = refl
-and-true false = refl
 
 all_four : (a b c d : Bool) → (a && (b && (c && (d && true)))) ≡ (((a && b) && c) && d)
 all_four true true true d = and-true d

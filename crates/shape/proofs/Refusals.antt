@@ -6,6 +6,7 @@ use native.Mathlib.Omega.{arith}
 use lib.Dec.{T}
 use lib.Ieee.{Float, nan, inf, fin, of_bits, neg, lt, le, eq, is_nan}
 use Rattle.std.specs.Float.{NotNan}
+use Rattle.std.proofs.lemmas.Bool.{or_from, or_parts}
 use Rattle.std.proofs.lemmas.Float as order
 use Rattle.ieee.proofs.Tests.{none_of_four}
 use Rattle.ieee.specs.Basic.{abs_of}
@@ -65,13 +66,6 @@ unfolding new_of
 four_if_inverted bounds radii = (third (shape_of bounds radii) (beyond bounds radii) (radii_below radii) (inverted bounds), λ h. rw (h.0, h.1, h.2))
 
 -- ---- what is within the limits is what no test refuses
-neither : (a b : Bool) → (a || b) ≡ false → (a ≡ false) × (b ≡ false)
-neither true b h = absurd (true≢false h)
-neither false b h = (refl, h)
-
-no_two : (a b : Bool) → a ≡ false → b ≡ false → (a || b) ≡ false
-no_two a b e f = rw (e, f) refl
-
 no_four : (a b c d : Bool) → a ≡ false → b ≡ false → c ≡ false → d ≡ false → (a || b || c || d) ≡ false
 no_four a b c d e f g h = rw (e, f, g, h) refl
 
@@ -102,20 +96,20 @@ in_order x y n m h = order.le_of_not-lt y x m n (order.T_from_false _ h)
 
 point_passes : (p : Point) → OfBoth IsInRange p → point_beyond p ≡ false
 unfolding point_beyond
-point_passes p h = no_two _ _ (passes p.x h.0) (passes p.y h.1)
+point_passes p h = or_from _ _ (passes p.x h.0) (passes p.y h.1)
 
 point_in_range : (p : Point) → point_beyond p ≡ false → OfBoth IsInRange p
 unfolding point_beyond
-point_in_range p h = let n = neither (beyond_limit p.x) (beyond_limit p.y) h in (in_range p.x n.0, in_range p.y n.1)
+point_in_range p h = let n = or_parts (beyond_limit p.x) (beyond_limit p.y) h in (in_range p.x n.0, in_range p.y n.1)
 
 point_not_below : (p : Point) → OfBoth IsNotNegative p → point_below p ≡ false
 unfolding point_below
-point_not_below p h = no_two _ _ (not_below zero p.x h.0) (not_below zero p.y h.1)
+point_not_below p h = or_from _ _ (not_below zero p.x h.0) (not_below zero p.y h.1)
 
 point_not_negative : (p : Point) → OfBoth IsInRange p → point_below p ≡ false → OfBoth IsNotNegative p
 unfolding point_below
 point_not_negative p r h =
-    let n = neither (lt p.x zero) (lt p.y zero) h in
+    let n = or_parts (lt p.x zero) (lt p.y zero) h in
     (not_negative p.x (number p.x r.0) n.0, not_negative p.y (number p.y r.1) n.1)
 
 no_corner : (has : Point → Bool) (P : Point → Type 0) → ((p : Point) → P p → has p ≡ false) → (r : CornerRadii) → OfFour P r → any_corner has r ≡ false
@@ -125,20 +119,20 @@ no_corner has P f r h = no_four _ _ _ _ (f r.top_left h.0) (f r.top_right h.1) (
 within_made : (bounds : Bounds) (radii : CornerRadii) → IsWithinLimits bounds radii → new_of bounds radii ≡ made (shape_of bounds radii)
 unfolding new_of bounds_beyond radii_beyond radii_below inverted
 within_made bounds radii h =
-    let b : beyond bounds radii ≡ false = no_two _ _ (no_two _ _ (point_passes bounds.min h.min) (point_passes bounds.max h.max)) (no_corner point_beyond (OfBoth IsInRange) point_passes radii h.corners) in
+    let b : beyond bounds radii ≡ false = or_from _ _ (or_from _ _ (point_passes bounds.min h.min) (point_passes bounds.max h.max)) (no_corner point_beyond (OfBoth IsInRange) point_passes radii h.corners) in
     let n : radii_below radii ≡ false = no_corner point_below (OfBoth IsNotNegative) point_not_below radii h.not_negative in
-    let i : inverted bounds ≡ false = no_two _ _ (not_below bounds.min.x bounds.max.x h.across) (not_below bounds.min.y bounds.max.y h.down) in
+    let i : inverted bounds ≡ false = or_from _ _ (not_below bounds.min.x bounds.max.x h.across) (not_below bounds.min.y bounds.max.y h.down) in
     rw (b, n, i)
 
 made_within : (bounds : Bounds) (radii : CornerRadii) → new_of bounds radii ≡ made (shape_of bounds radii) → IsWithinLimits bounds radii
 unfolding new_of bounds_beyond radii_beyond radii_below inverted any_corner
 made_within bounds radii e =
     let t = none (shape_of bounds radii) (beyond bounds radii) (radii_below radii) (inverted bounds) e in
-    let b = neither (bounds_beyond bounds) (radii_beyond radii) t.0 in
-    let c = neither (point_beyond bounds.min) (point_beyond bounds.max) b.0 in
+    let b = or_parts (bounds_beyond bounds) (radii_beyond radii) t.0 in
+    let c = or_parts (point_beyond bounds.min) (point_beyond bounds.max) b.0 in
     let r = none_of_four (point_beyond radii.top_left) (point_beyond radii.top_right) (point_beyond radii.bottom_left) (point_beyond radii.bottom_right) b.1 in
     let n = none_of_four (point_below radii.top_left) (point_below radii.top_right) (point_below radii.bottom_left) (point_below radii.bottom_right) t.1 in
-    let i = neither (lt bounds.max.x bounds.min.x) (lt bounds.max.y bounds.min.y) t.2 in
+    let i = or_parts (lt bounds.max.x bounds.min.x) (lt bounds.max.y bounds.min.y) t.2 in
     let min = point_in_range bounds.min c.0 in
     let max = point_in_range bounds.max c.1 in
     let tl = point_in_range radii.top_left r.0 in
