@@ -6,7 +6,7 @@ use Rattle.panel_file.specs.declared.Record.{Record}
 use Rattle.panel_file.specs.declared.Record.TheVariants.{Button as ButtonRecord, Touch as TouchRecord}
 use Rattle.panel_file.specs.Panel.{Answer, done, refused, records_of}
 use Rattle.shape.specs.declared.Bounds.{Bounds}
-use Rattle.shape.specs.Refusal.{Outcome}
+use Rattle.shape.specs.Refusal.{ShapeOutcome}
 use Rattle.shape.specs.Refusal.{made as Made, refused as RefusedBy}
 use Rattle.touch.specs.Touch.{shape_of}
 use Rattle.consistency.specs.Inspection.{consistent_of}
@@ -14,7 +14,7 @@ use Rattle.report_lines.specs.declared.Line.{Line}
 use Rattle.report_lines.specs.declared.Line.TheVariants.{Refused, Consistent, Apart, Broken}
 
 -- the line of a shape made for some bounds, or of one that is refused
-unfoldable pub finding_of : ℕ → Bounds → Outcome → Line
+unfoldable pub finding_of : ℕ → Bounds → ShapeOutcome → Line
 finding_of index bounds (Made s) = if consistent_of bounds s then Consistent index else Apart index
 finding_of index bounds (RefusedBy cause) = Refused index cause
 

@@ -12,7 +12,7 @@ use panel_file::{Button, Counts, PanelFile, Record};
 use report_lines::{Line, Lines};
 use shape::Bounds;
 
-#[tactic(auto, unfolding(crate::specs::Findings::finding, crate::specs::Findings::finding_of, shape::specs::Refusal::outcome_of))]
+#[tactic(auto, unfolding(crate::specs::Findings::finding, crate::specs::Findings::finding_of, shape::specs::Refusal::shape_outcome_of))]
 fn finding_line(index: usize, button: Button) -> Line
     ensures { result ≡ finding index button }
 {

@@ -1,4 +1,4 @@
--- Document 01's example j, by computation. Assumes nothing.
+-- The worked example of a shape, by computation. Assumes nothing.
 use mathlib.Core.Path.{◌≡◌, refl}
 use mathlib.Core.Bool.{true, false}
 use lib.Ieee.{Float, binary32, of_bits, add, sub, mul, div, neg, lt, le, eq, ne, round}
@@ -32,7 +32,7 @@ bounds = record { min = point zero zero; max = point ten ten }
 abbrev pub radii : CornerRadii
 radii = let none = point zero zero in record { top_left = none; top_right = none; bottom_left = none; bottom_right = none }
 
--- j. The shape is made; in it (0,10) is outside, (5,5) inside.
+-- The shape is made; in it (0,10) is outside, (5,5) inside.
 pub is_made : new_of bounds radii ≡ made (shape_of bounds radii)
 unfolding opened
 is_made = refl

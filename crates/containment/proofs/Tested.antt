@@ -16,7 +16,7 @@ use Rattle.geometry.specs.declared.Point.{Point}
 use Rattle.geometry.specs.Point.{sub_of, distance_squared_of, length_squared_of}
 use Rattle.octant.specs.Octant.{point}
 use Rattle.ieee.specs.Binary32.{zero}
-use Rattle.containment.specs.Arcs.{squared_distances, beyond_circle, beyond_arc}
+use Rattle.containment.specs.QuickReject.{squared_distances, beyond_circle, beyond_arc}
 
 -- ---- two distances at once, as the code works them out
 unfoldable pub distances_of : List Float → List Float → List Float
@@ -82,20 +82,20 @@ tested from bounds n d =
     paired (mask_l (map (top 31) (zip2 bit_and ordered past)) % 2 ^ 64)
 
 -- as the definition has it
-abbrev pub said : Lanes → Lanes → Lanes → Point → Bool
-said from center bounds n = beyond_arc from center bounds 0 n || beyond_arc from center bounds 2 (point n.y n.x)
+abbrev pub by_definition : Lanes → Lanes → Lanes → Point → Bool
+by_definition from center bounds n = beyond_arc from center bounds 0 n || beyond_arc from center bounds 2 (point n.y n.x)
 
 tested_lanes : (n : Point) (a b c d e f g h i j k l : Float)
-    → tested (a ∷ b ∷ c ∷ d ∷ []) (i ∷ j ∷ k ∷ l ∷ []) n (squared_distances (own (a ∷ b ∷ c ∷ d ∷ []) n) (e ∷ f ∷ g ∷ h ∷ [])) ≡ said (a ∷ b ∷ c ∷ d ∷ []) (e ∷ f ∷ g ∷ h ∷ []) (i ∷ j ∷ k ∷ l ∷ []) n
+    → tested (a ∷ b ∷ c ∷ d ∷ []) (i ∷ j ∷ k ∷ l ∷ []) n (squared_distances (own (a ∷ b ∷ c ∷ d ∷ []) n) (e ∷ f ∷ g ∷ h ∷ [])) ≡ by_definition (a ∷ b ∷ c ∷ d ∷ []) (e ∷ f ∷ g ∷ h ∷ []) (i ∷ j ∷ k ∷ l ∷ []) n
 unfolding tested squared_distances beyond_circle sub_of distance_squared_of length_squared_of
 tested_lanes n a b c d e f g h i j k l =
     let p = sub_of n (point a b) in
     let q = sub_of (point n.y n.x) (point c d) in
     paired_lanes (le zero p.x) (lt i p.x) (le p.x p.y) (lt j (distance_squared_of p (point e f))) (le zero q.x) (lt k q.x) (le q.x q.y) (lt l (distance_squared_of q (point g h)))
 
-pub told : (from center bounds : Lanes) (n : Point) → length from ≡ 4 → length center ≡ 4 → length bounds ≡ 4 → tested from bounds n (squared_distances (own from n) center) ≡ said from center bounds n
-told from center bounds n e f g =
+pub tested-is : (from center bounds : Lanes) (n : Point) → length from ≡ 4 → length center ≡ 4 → length bounds ≡ 4 → tested from bounds n (squared_distances (own from n) center) ≡ by_definition from center bounds n
+tested-is from center bounds n e f g =
     let p = four_lanes nan from e in
     let q = four_lanes nan center f in
     let r = four_lanes nan bounds g in
-    (λ i. tested (p i) (r i) n (squared_distances (own (p i) n) (q i))) ∙ tested_lanes n _ _ _ _ _ _ _ _ _ _ _ _ ∙ sym (λ i. said (p i) (q i) (r i) n)
+    (λ i. tested (p i) (r i) n (squared_distances (own (p i) n) (q i))) ∙ tested_lanes n _ _ _ _ _ _ _ _ _ _ _ _ ∙ sym (λ i. by_definition (p i) (q i) (r i) n)

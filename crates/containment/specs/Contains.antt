@@ -11,7 +11,8 @@ use Rattle.quadrant.specs.declared.Quadrant.{Quadrant}
 use Rattle.quadrant.specs.Quadrant.{square_corner}
 use Rattle.shape.specs.declared.RoundSuperellipse.{RoundSuperellipse}
 
--- octant_contains: inside the octant's arc: the superellipse's, its border included, as far as the circle starts, then the circle's, without its border; true for any point outside the octant
+-- octant_contains: inside the octant's arc: the superellipse's, its border included, as far as the circle starts,
+-- then the circle's, without its border; true for any point outside the octant
 unfoldable pub octant_contains_of : Octant → Point → Bool
 octant_contains_of param p =
     if lt p.x zero || lt p.y zero || lt p.y p.x then true
@@ -41,7 +42,8 @@ round_contains param norm_point =
 
 -- inside a corner of either kind
 unfoldable pub norm_contains : Quadrant → Point → Bool
-norm_contains param norm_point = if square_corner param then square_contains param norm_point else round_contains param norm_point
+norm_contains param norm_point =
+    if square_corner param then square_contains param norm_point else round_contains param norm_point
 
 -- corner_contains: with `check_quadrant` true for any point outside the quadrant, else mirrored into it
 unfoldable pub corner_contains_of : Quadrant → Point → Bool → Bool

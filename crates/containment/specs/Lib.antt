@@ -1,3 +1,5 @@
 pub mod Contains
 pub mod Parts
-pub mod Arcs
+pub mod QuickReject
+pub mod Floats
+pub use Rattle.shape.specs.Layout

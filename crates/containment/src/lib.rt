@@ -10,13 +10,15 @@ ghost use Rattle.ieee.specs.Binary32.{zero};
 ghost use Rattle.octant.specs.Octant.{point};
 ghost use Rattle.containment.specs.Contains.{octant_contains_of, within, square_contains, round_contains, norm_contains, corner_contains_of, contains_of};
 ghost use Rattle.containment.specs.Parts.{in_superellipse, asks_powers};
-ghost use Rattle.containment.specs.Arcs.{squared_distances, beyond_arc, arcs_of, beyond_arcs, misses_of, arcs_in};
+ghost use Rattle.containment.specs.QuickReject.{squared_distances, beyond_arc, quick_reject_of, beyond_arcs, is_surely_outside, quick_rejects_of};
 
 use geometry::Point;
 use octant::Octant;
 use quadrant::Quadrant;
 use shape::RoundSuperellipse;
 use std::simd::prelude::*;
+
+pub mod floats;
 
 // Whether a point is inside a superellipse of the half-extent a and the degree n, its border included. Its floats come
 // one by one: a point would be packed into one word and taken apart again.
@@ -46,9 +48,9 @@ fn asks_powers(param: Octant, p: Point) -> bool
     p.x <= param.circle_start.x
 }
 
-/// Whether p is inside the octant's arc; true for any point outside the octant.
+// Whether p is inside the octant's arc; true for any point outside the octant.
 #[tactic(auto, unfolding(crate::specs::Contains::octant_contains_of, crate::specs::Parts::in_superellipse))]
-pub fn octant_contains(param: Octant, p: Point) -> bool
+fn octant_contains(param: Octant, p: Point) -> bool
     ensures { result ≡ octant_contains_of param p }
 {
     if p.x < 0.0 {
@@ -78,8 +80,9 @@ fn is_within(delta: f32, scale: f32) -> bool
     delta == 0.0 && scale < 0.0
 }
 
+// Whether a point in the quadrant's own space is inside both edges of a square corner.
 #[tactic(auto, unfolding(crate::specs::Contains::square_contains))]
-pub fn square_contains(param: Quadrant, norm_point: Point) -> bool
+fn square_contains(param: Quadrant, norm_point: Point) -> bool
     ensures { result ≡ square_contains param norm_point }
 {
     let x_delta = param.right.offset.x + param.right.se_a - norm_point.x;
@@ -87,8 +90,9 @@ pub fn square_contains(param: Quadrant, norm_point: Point) -> bool
     is_within(x_delta, param.signed_scale.x) && is_within(y_delta, param.signed_scale.y)
 }
 
-// The top octant's powers are asked for here, and the right one's in `octant_contains`: called from two places, they are
-// compiled apart from the tests, which then are compiled in place.
+// Whether a point in the quadrant's own space is inside both octants' arcs. The top octant's powers are asked for
+// here, and the right one's in `octant_contains`: called from two places, they are compiled apart from the tests,
+// which then are compiled in place.
 #[tactic(auto, using(crate::proofs::Asking::asked), unfolding(crate::specs::Contains::round_contains))]
 fn round_contains(param: Quadrant, norm_point: Point) -> bool
     ensures { result ≡ round_contains param norm_point }
@@ -139,8 +143,9 @@ fn mirrored(x: f32, check_quadrant: bool) -> f32
     ieee::abs(x)
 }
 
-/// One call of `norm_contains`, so that it is compiled in place and no record is copied for it.
-pub fn corner_contains(param: Quadrant, p: Point, check_quadrant: bool) -> bool
+// Whether the corner holds p: any point outside its quadrant, or p mirrored into it. One call of `norm_contains`, so
+// that it is compiled in place and no record is copied for it.
+fn corner_contains(param: Quadrant, p: Point, check_quadrant: bool) -> bool
     ensures { result ≡ corner_contains_of param p check_quadrant }
 {
     let norm_point = (p - param.offset) / param.signed_scale;
@@ -154,6 +159,7 @@ pub fn corner_contains(param: Quadrant, p: Point, check_quadrant: bool) -> bool
     norm_contains(param, own_point)
 }
 
+/// Whether the shape contains p: all corners hold it, or the one that describes all four.
 #[tactic(auto, unfolding(crate::specs::Contains::contains_of))]
 pub fn contains(shape: RoundSuperellipse, p: Point) -> bool
     ensures { result ≡ contains_of shape p }
@@ -167,10 +173,11 @@ pub fn contains(shape: RoundSuperellipse, p: Point) -> bool
         && corner_contains(shape.top_left, p, true)
 }
 
-/// What a corner's circular arcs ask of a point, for a quick test: most points outside lie beyond an arc. A vector's first two
-/// numbers are the top octant's and its last two the right one's, whose x and y are exchanged, so that both are tested in one go.
+/// What a corner's circular arcs ask of a point, for a quick test: most points outside lie beyond an arc. A vector's
+/// first two numbers are the top octant's and its last two the right one's, whose x and y are exchanged, so that one
+/// test serves both.
 #[derive(Clone, Copy)]
-pub struct Arcs {
+pub struct QuickReject {
     pub offset: Point,
     pub signed_scale: Point,
     // The octants' offsets.
@@ -178,8 +185,8 @@ pub struct Arcs {
     pub center: f32x4,
     // Where the circle starts, and its squared radius.
     pub bounds: f32x4,
-    // A flag, and no enum round the vectors: `touch` takes the offset of a square corner too, and the flag is one of the tests that
-    // `is_beyond_arcs` makes with no branch between them.
+    // A flag, and no enum round the vectors: `touch` takes the offset of a square corner too, and the flag is one of
+    // the tests that `is_beyond_arcs` makes with no branch between them.
     pub is_round: bool,
 }
 
@@ -192,8 +199,9 @@ fn squared_distances(p: f32x4, q: f32x4) -> f32x4
     squares.swizzle([1, 0, 3, 2]) + squares
 }
 
-fn arcs_of(q: Quadrant) -> Arcs
-    ensures { result ≡ arcs_of q }
+// What one corner asks.
+fn quick_reject_of(q: Quadrant) -> QuickReject
+    ensures { result ≡ quick_reject_of q }
 {
     let top = q.top;
     let right = q.right;
@@ -209,7 +217,7 @@ fn arcs_of(q: Quadrant) -> Arcs
         right.circle_center.x,
         right.circle_center.y,
     ]);
-    Arcs {
+    QuickReject {
         offset: q.offset,
         signed_scale: q.signed_scale,
         from: f32x4::from_array([top.offset.x, top.offset.y, right.offset.y, right.offset.x]),
@@ -219,22 +227,23 @@ fn arcs_of(q: Quadrant) -> Arcs
     }
 }
 
-/// The corners' arcs: top right, bottom right, top left, bottom left.
-#[tactic(auto, unfolding(crate::specs::Arcs::arcs_in))]
-pub fn all_arcs(shape: RoundSuperellipse) -> [Arcs; 4]
-    ensures { result ≡ arcs_in shape }
+/// What each corner asks: top right, bottom right, top left, bottom left.
+#[tactic(auto, unfolding(crate::specs::QuickReject::quick_rejects_of))]
+pub fn quick_rejects(shape: RoundSuperellipse) -> [QuickReject; 4]
+    ensures { result ≡ quick_rejects_of shape }
 {
-    let top_right = arcs_of(shape.top_right);
-    let bottom_right = arcs_of(shape.bottom_right);
-    let top_left = arcs_of(shape.top_left);
-    let bottom_left = arcs_of(shape.bottom_left);
+    let top_right = quick_reject_of(shape.top_right);
+    let bottom_right = quick_reject_of(shape.bottom_right);
+    let top_left = quick_reject_of(shape.top_left);
+    let bottom_left = quick_reject_of(shape.bottom_left);
     [top_right, bottom_right, top_left, bottom_left]
 }
 
-// Whether a point in a corner's own space lies beyond an arc of one of its octants, by the bits of a number: which of the comparisons
-// decides is hard to foresee.
+// Whether a point in a corner's own space lies beyond an arc of one of its octants, by the bits of a number: which of
+// the comparisons decides is hard to foresee.
 fn is_beyond_either(from: f32x4, center: f32x4, bounds: f32x4, n: Point) -> bool
-    ensures { result ≡ (beyond_arc from center bounds 0 n || beyond_arc from center bounds 2 (point n.y n.x)) }
+    ensures { result ≡ (beyond_arc from center bounds 0 n
+        || beyond_arc from center bounds 2 (point n.y n.x)) }
 {
     let own = f32x4::from_array([n.x, n.y, n.y, n.x]) - from;
     let d = squared_distances(own, center);
@@ -245,24 +254,26 @@ fn is_beyond_either(from: f32x4, center: f32x4, bounds: f32x4, n: Point) -> bool
     bits & (bits >> 1) & 5 != 0
 }
 
-#[tactic(auto, unfolding(crate::specs::Arcs::beyond_arcs))]
-fn is_beyond_arcs(a: Arcs, n: Point) -> bool
+// The same of a corner that is round; no point lies beyond the arcs of a square one.
+#[tactic(auto, unfolding(crate::specs::QuickReject::beyond_arcs))]
+fn is_beyond_arcs(a: QuickReject, n: Point) -> bool
     ensures { result ≡ beyond_arcs a n }
 {
     a.is_round & is_beyond_either(a.from, a.center, a.bounds, n)
 }
 
-/// The same of a corner whose numbers were not taken out before: a round corner does not hold such a point.
-pub fn is_beyond(q: Quadrant, n: Point) -> bool
-    ensures { result ≡ beyond_arcs (arcs_of q) n }
+// The same of a quadrant, whose numbers are taken out here: a round corner does not hold such a point.
+fn is_beyond(q: Quadrant, n: Point) -> bool
+    ensures { result ≡ beyond_arcs (quick_reject_of q) n }
 {
-    is_beyond_arcs(arcs_of(q), n)
+    is_beyond_arcs(quick_reject_of(q), n)
 }
 
-/// Whether p lies beyond an arc. Then the corner does not contain it.
-#[tactic(auto, unfolding(crate::specs::Arcs::misses_of))]
-pub fn misses(a: Arcs, same: bool, p: Point) -> bool
-    ensures { result ≡ misses_of a same p }
+/// Whether p lies beyond an arc of the corner. Then the shape does not contain it; `same` says whether the corner
+/// describes all four.
+#[tactic(auto, unfolding(crate::specs::QuickReject::is_surely_outside))]
+pub fn is_surely_outside(a: QuickReject, same: bool, p: Point) -> bool
+    ensures { result ≡ is_surely_outside a same p }
 {
     let n = (p - a.offset) / a.signed_scale;
     if same {

@@ -34,7 +34,7 @@ pub fn shackletongue_add_to(
     let Some(b) = ffi_path::load(counts, places) else {
         return WRONG_LENGTH;
     };
-    let a = outline::add_to(ffi_shape::shape_at(shape), b, verbs, points);
+    let a = outline::add_to(shape::layout::shape_at(shape), b, verbs, points);
     ffi_path::store_answer(counts, places, a.map(Written::from))
 }
 
@@ -56,7 +56,7 @@ pub fn shackletongue_outline_need(shape: &[f32], need: &mut [u64]) -> u32
     if need.len() != NEED_LENGTH {
         return WRONG_LENGTH;
     }
-    store_need(need, outline_need::need(ffi_shape::shape_at(shape)));
+    store_need(need, outline_need::need(shape::layout::shape_at(shape)));
     0
 }
 
@@ -95,5 +95,5 @@ pub fn shackletongue_is_consistent(sizes: &[f32], shape: &[f32]) -> u32
     let Some(shape) = shape.as_array::<SHAPE_LENGTH>() else {
         return WRONG_LENGTH;
     };
-    u32::from(consistency::is_consistent(ffi_shape::bounds_at(sizes), ffi_shape::shape_at(shape)))
+    u32::from(consistency::is_consistent(shape::layout::bounds_at(sizes), shape::layout::shape_at(shape)))
 }

@@ -17,11 +17,11 @@ use Rattle.octant.specs.Octant.{point}
 use Rattle.octant.specs.declared.Octant.{Octant}
 use Rattle.quadrant.specs.declared.Quadrant.{Quadrant}
 use Rattle.shape.specs.declared.RoundSuperellipse.{RoundSuperellipse}
-use Rattle.ffi_shape.specs.Layout.{point_floats, octant_floats, quadrant_floats, shape_floats}
+use Rattle.shape.specs.Layout.{point_floats, octant_floats, quadrant_floats, shape_floats}
 
 -- m' has ws behind vs, where m has vs in l
-pub grown : (l m m' : List Float) (i j : ℕ) (vs ws : List Float) → i ≤ length l → j ≡ i + length vs → m ≡ put l i vs → m' ≡ put m j ws → m' ≡ put l i (vs ++ ws)
-grown l m m' i j vs ws h e p q = q ∙ put-after l m i j vs ws h e p
+pub put-after_put : (l m m' : List Float) (i j : ℕ) (vs ws : List Float) → i ≤ length l → j ≡ i + length vs → m ≡ put l i vs → m' ≡ put m j ws → m' ≡ put l i (vs ++ ws)
+put-after_put l m m' i j vs ws h e p q = q ∙ put-after l m i j vs ws h e p
 
 pub octant_stored : (l m₁ m₂ m₃ m₄ : List Float) (i : ℕ) (o : Octant) → i + 9 ≤ length l
     → m₁ ≡ put l i (point_floats o.offset) → m₂ ≡ put m₁ (i + 2) (point_floats (point o.se_a o.se_n)) → m₃ ≡ put m₂ (i + 4) (point_floats o.circle_start) → m₄ ≡ put m₃ (i + 6) (point_floats o.circle_center)
@@ -29,10 +29,10 @@ pub octant_stored : (l m₁ m₂ m₃ m₄ : List Float) (i : ℕ) (o : Octant) 
 unfolding octant_floats
 octant_stored l m₁ m₂ m₃ m₄ i o h e₁ e₂ e₃ e₄ k =
     let at : i ≤ length l = omega arith in
-    let s₂ = grown l m₁ m₂ i (i + 2) (point_floats o.offset) (point_floats (point o.se_a o.se_n)) at refl e₁ e₂ in
-    let s₃ = grown l m₂ m₃ i (i + 4) _ (point_floats o.circle_start) at refl s₂ e₃ in
-    let s₄ = grown l m₃ m₄ i (i + 6) _ (point_floats o.circle_center) at refl s₃ e₄ in
-    grown l m₄ _ i (i + 8) _ (o.circle_max_angle ∷ []) at refl s₄ (put_one m₄ (i + 8) o.circle_max_angle (omega arith))
+    let s₂ = put-after_put l m₁ m₂ i (i + 2) (point_floats o.offset) (point_floats (point o.se_a o.se_n)) at refl e₁ e₂ in
+    let s₃ = put-after_put l m₂ m₃ i (i + 4) _ (point_floats o.circle_start) at refl s₂ e₃ in
+    let s₄ = put-after_put l m₃ m₄ i (i + 6) _ (point_floats o.circle_center) at refl s₃ e₄ in
+    put-after_put l m₄ _ i (i + 8) _ (o.circle_max_angle ∷ []) at refl s₄ (put_one m₄ (i + 8) o.circle_max_angle (omega arith))
 
 pub quadrant_stored : (l m₁ m₂ m₃ m₄ : List Float) (i : ℕ) (q : Quadrant) → i + 22 ≤ length l
     → m₁ ≡ put l i (point_floats q.offset) → m₂ ≡ put m₁ (i + 2) (point_floats q.signed_scale) → m₃ ≡ put m₂ (i + 4) (octant_floats q.top) → m₄ ≡ put m₃ (i + 13) (octant_floats q.right)
@@ -40,9 +40,9 @@ pub quadrant_stored : (l m₁ m₂ m₃ m₄ : List Float) (i : ℕ) (q : Quadra
 unfolding octant_floats quadrant_floats
 quadrant_stored l m₁ m₂ m₃ m₄ i q h e₁ e₂ e₃ e₄ =
     let at : i ≤ length l = omega arith in
-    let s₂ = grown l m₁ m₂ i (i + 2) (point_floats q.offset) (point_floats q.signed_scale) at refl e₁ e₂ in
-    let s₃ = grown l m₂ m₃ i (i + 4) _ (octant_floats q.top) at refl s₂ e₃ in
-    grown l m₃ m₄ i (i + 13) _ (octant_floats q.right) at refl s₃ e₄
+    let s₂ = put-after_put l m₁ m₂ i (i + 2) (point_floats q.offset) (point_floats q.signed_scale) at refl e₁ e₂ in
+    let s₃ = put-after_put l m₂ m₃ i (i + 4) _ (octant_floats q.top) at refl s₂ e₃ in
+    put-after_put l m₃ m₄ i (i + 13) _ (octant_floats q.right) at refl s₃ e₄
 
 -- what fills a list replaces it
 put_whole : (l vs : List Float) → length l ≡ length vs → put l 0 vs ≡ vs
@@ -61,9 +61,9 @@ pub shape-stored : (l m₁ m₂ m₃ m₄ : List Float) (v : Float) (s : RoundSu
 unfolding octant_floats quadrant_floats shape_floats
 shape-stored l m₁ m₂ m₃ m₄ v s h e₁ e₂ e₃ e₄ f k =
     let at : 0 ≤ length l = omega arith in
-    let s₂ = grown l m₁ m₂ 0 22 (quadrant_floats s.top_right) (quadrant_floats s.bottom_right) at refl e₁ e₂ in
-    let s₃ = grown l m₂ m₃ 0 44 _ (quadrant_floats s.bottom_left) at refl s₂ e₃ in
-    let s₄ = grown l m₃ m₄ 0 66 _ (quadrant_floats s.top_left) at refl s₃ e₄ in
+    let s₂ = put-after_put l m₁ m₂ 0 22 (quadrant_floats s.top_right) (quadrant_floats s.bottom_right) at refl e₁ e₂ in
+    let s₃ = put-after_put l m₂ m₃ 0 44 _ (quadrant_floats s.bottom_left) at refl s₂ e₃ in
+    let s₄ = put-after_put l m₃ m₄ 0 66 _ (quadrant_floats s.top_left) at refl s₃ e₄ in
     ap (λ (x : Float). set m₄ 88 x) f
-    ∙ grown l m₄ _ 0 88 _ (cond s.all_corners_same one zero ∷ []) at refl s₄ (put_one m₄ 88 (cond s.all_corners_same one zero) (omega arith))
+    ∙ put-after_put l m₄ _ 0 88 _ (cond s.all_corners_same one zero ∷ []) at refl s₄ (put_one m₄ 88 (cond s.all_corners_same one zero) (omega arith))
     ∙ put_whole l _ h

@@ -1,2 +1,3 @@
-pub mod Layout
 pub mod Making
+pub use Rattle.octant.specs.Octant
+pub use Rattle.shape.specs.Layout

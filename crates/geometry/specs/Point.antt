@@ -1,6 +1,7 @@
--- Document 01's rules for points: arithmetic goes by component, each operation of binary32 rounded once, in the order written. Definitions only.
-use Rattle.std.specs.Prelude.{Bool, ◌&&◌, Float}
-use Rattle.std.specs.Float.{binary32}
+-- Points of the plane: arithmetic goes by component, each operation of binary32 rounded once, in the order written.
+-- Definitions only.
+use Rattle.std.specs.Prelude.{Bool, ◌&&◌, List, ℕ, ◌+◌, get_or, Float}
+use Rattle.std.specs.Float.{binary32, nan}
 use Rattle.std.specs.Float.Ieee.{add, sub, mul, div, neg}
 use Rattle.std.specs.Float.Ieee.Scale.{finite}
 use Rattle.ieee.specs.Binary32.{one}
@@ -12,6 +13,7 @@ use Rattle.geometry.specs.declared.Point.{Point}
 abbrev each : (Float → Float) → Point → Point
 each g p = record { x = g p.x; y = g p.y }
 
+-- one operation on the components of two points
 abbrev both : (Float → Float → Float) → Point → Point → Point
 both g p q = record { x = g p.x q.x; y = g p.y q.y }
 
@@ -46,7 +48,7 @@ abs_point p = each abs_of p
 unfoldable pub finite_point : Point → Bool
 finite_point p = finite p.x && finite p.y
 
--- x * x + y * y; that of the difference; its root
+-- x * x + y * y; that of the difference of two points; its root
 unfoldable pub length_squared_of : Point → Float
 length_squared_of p = add binary32 (mul binary32 p.x p.x) (mul binary32 p.y p.y)
 
@@ -59,3 +61,7 @@ length_of p = sqrt_of binary32 (length_squared_of p)
 -- the point times the reciprocal of its length
 unfoldable pub normalize_of : Point → Point
 normalize_of p = scale_of p (div binary32 one (length_of p))
+
+-- the point whose x and y stand at i and i + 1; a float past the end is a NaN
+abbrev pub point_at : List Float → ℕ → Point
+point_at fs i = record { x = get_or fs i nan; y = get_or fs (i + 1) nan }

@@ -1,14 +1,15 @@
-//! Points of the plane and their arithmetic in binary32: document 01's rules for the Rust's Vec2.
+//! Points of the plane and their arithmetic in binary32, as the Rust's Vec2 has it: by component.
 //! Every operation is rounded once, in the order written.
 
 #![tactic(auto)]
 
-ghost use Rattle.std.specs.Prelude.{◌≡◌};
-ghost use Rattle.geometry.specs.Point.{add_of, sub_of, mul_of, div_of, scale_of, shrink_of, neg_of, abs_point, finite_point, length_squared_of, distance_squared_of, length_of, normalize_of};
+ghost use Rattle.std.specs.Prelude.{◌≡◌, ◌+◌, ◌≤◌, length};
+ghost use Rattle.geometry.specs.Point.{add_of, sub_of, mul_of, div_of, scale_of, shrink_of, neg_of, abs_point, finite_point, length_squared_of, distance_squared_of, length_of, normalize_of, point_at};
 
 use std::ops::{Add, Div, Mul, Neg, Sub};
 use std::simd::prelude::*;
 
+/// A point, or a vector from one point to another.
 #[derive(Clone, Copy, Debug, PartialEq)]
 pub struct Point {
     pub x: f32,
@@ -85,7 +86,7 @@ impl Mul<f32> for Point {
     }
 }
 
-// A true division of each component, never a product with a reciprocal.
+// A division of each component, never a product with a reciprocal.
 impl Div<f32> for Point {
     type Output = Point;
 
@@ -115,8 +116,8 @@ impl Neg for Point {
 }
 
 impl Point {
-    /// As ieee's `abs`, by v where it is above 0 and else by 0 - v, of both coordinates in one vector: a NaN is not set apart, and
-    /// the comparison does not wait for the difference.
+    /// The magnitude of each coordinate: v where it is above 0, else 0 - v, of both in one vector. A NaN is not set
+    /// apart, and the comparison does not wait for the difference.
     pub fn abs(self) -> Point
         ensures { result ≡ abs_point self }
     {
@@ -126,6 +127,7 @@ impl Point {
         Point { x, y }
     }
 
+    /// Whether neither coordinate is infinite or a NaN.
     #[tactic(auto, unfolding(crate::specs::Point::finite_point))]
     pub fn is_finite(self) -> bool
         ensures { result ≡ finite_point self }
@@ -133,6 +135,7 @@ impl Point {
         ieee::is_finite(self.x) && ieee::is_finite(self.y)
     }
 
+    /// x * x + y * y.
     #[tactic(auto, unfolding(crate::specs::Point::length_squared_of))]
     pub fn length_squared(self) -> f32
         ensures { result ≡ length_squared_of self }
@@ -140,6 +143,7 @@ impl Point {
         self.x * self.x + self.y * self.y
     }
 
+    /// The squared length of the vector from q.
     #[tactic(auto, unfolding(crate::specs::Point::distance_squared_of))]
     pub fn distance_squared(self, q: Point) -> f32
         ensures { result ≡ distance_squared_of self q }
@@ -147,6 +151,7 @@ impl Point {
         (self - q).length_squared()
     }
 
+    /// The root of the squared length.
     #[tactic(auto, unfolding(crate::specs::Point::length_of))]
     pub fn length(self) -> f32
         ensures { result ≡ length_of self }
@@ -154,11 +159,22 @@ impl Point {
         ieee::sqrt(self.length_squared())
     }
 
-    /// The reciprocal first, then a product.
+    /// The vector of length 1 in the same direction: the length's reciprocal first, then a product.
     #[tactic(auto, unfolding(crate::specs::Point::normalize_of))]
     pub fn normalize(self) -> Point
         ensures { result ≡ normalize_of self }
     {
         self * (1.0 / self.length())
+    }
+}
+
+/// The point whose x and y stand at `at` and behind it.
+pub fn point_at(floats: &[f32], at: usize) -> Point
+    requires { at + 2 ≤ length floats.now }
+    ensures { result ≡ point_at floats.now at }
+{
+    Point {
+        x: floats[at],
+        y: floats[at + 1],
     }
 }

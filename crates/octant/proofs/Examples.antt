@@ -1,4 +1,4 @@
--- Document 01's examples f and h, by computation. Assumes nothing.
+-- The worked examples of degrees, by computation. Assumes nothing.
 use mathlib.Core.Path.{◌≡◌, refl}
 use mathlib.Core.Bool.{true}
 use lib.Ieee.{binary32, of_bits, add, sub, mul, div, neg, lt, le, eq, round, of_int, to_unsigned}
@@ -13,7 +13,7 @@ unfoldable opened : Unit {0}
 unfolding add sub mul div neg lt le eq round of_int of_bits to_unsigned clamp_of corner_at table_steps_of n_and_xj_of compute_octant_of
 opened = tt
 
--- f. Ratio 5: the degree is 6.430238, the last row's; ratio 2.5: 2.7514899.
+-- Ratio 5: the degree is 6.430238, the last row's; ratio 2.5: 2.7514899.
 pub degree_at_5 : (n_and_xj_of second_max_ratio).n ≡ of_bits binary32 0x40cd_c482
 unfolding opened
 degree_at_5 = refl
@@ -26,7 +26,7 @@ pub degree_at_2½ : (n_and_xj_of first_max_ratio).n ≡ of_bits binary32 0x4030_
 unfolding opened
 degree_at_2½ = refl
 
--- h. An octant of half-extent 1 at the center p: with the radius 1e-3 it is square, of degree 0; with the next float the degree is above 2.
+-- An octant of half-extent 1 at the center p: with the radius 1e-3 it is square, of degree 0; with the next float the degree is above 2.
 pub sharp : (p : Point) → compute_octant_of p one close_enough ≡ record { offset = p; se_a = one; se_n = zero; circle_start = point one one; circle_center = point zero zero; circle_max_angle = zero }
 unfolding opened
 sharp p = refl

@@ -1,6 +1,6 @@
--- The left row's law, that an octant can be moved, its solve in stages, and document 01's examples of degrees.
+-- The left row's law, octants of another offset, the solve in stages, and the worked examples of degrees.
 pub mod Rows
-pub mod Moving
+pub mod Offset
 pub mod Examples
 pub mod Solving
 pub mod Turned

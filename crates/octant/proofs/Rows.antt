@@ -17,15 +17,6 @@ use Rattle.std.specs.Option.{MatchOption, unwrap_or}
 use Rattle.exponential.proofs.Integers.{below_or_on}
 use Rattle.octant.specs.Degree.{left_row_of}
 
--- The left row is in range, for every float.
-pub left-in_range : (steps : Float) (last : ℕ) → left_row_of steps last ≤ last
-left-in_range steps last = omega arith
-
--- A NaN's left row is the first.
-pub left_of-nan : (last : ℕ) → left_row_of nan last ≡ 0
-unfolding to_unsigned
-left_of-nan last = omega arith
-
 -- ---- comparisons of natural numbers, as Bools
 -- two tests that hold together are the same Bool
 leb_same : (a b c d : ℕ) → (b < a → d < c) → (a ≤ b → c ≤ d) → leb a b ≡ leb c d

@@ -1,4 +1,5 @@
--- The octant solver: the Rust's `circle_center_through`, `angle_between` and `compute_octant`, in its order. Definitions only.
+-- The octant solver: the Rust's `circle_center_through`, `angle_between` and `compute_octant`, in its order.
+-- Definitions only.
 use Rattle.std.specs.Prelude.{Float, if◌then◌else◌}
 use Rattle.std.specs.Float.{binary32}
 use Rattle.std.specs.Float.Ieee.{of_bits, neg, le}
@@ -46,7 +47,14 @@ angle_between_of from to = atan2_of to.y to.x ⊖ atan2_of from.y from.x
 unfoldable pub compute_octant_of : Point → Float → Float → Octant
 compute_octant_of center a radius =
     if le radius close_enough
-    then record { offset = center; se_a = a; se_n = zero; circle_start = point a a; circle_center = point zero zero; circle_max_angle = zero }
+    then record {
+      offset = center;
+      se_a = a;
+      se_n = zero;
+      circle_start = point a a;
+      circle_center = point zero zero;
+      circle_max_angle = zero;
+    }
     else (let ratio = a ⊗ two ⊘ radius in
     let g = gap_factor ⊗ radius in
     let fit = n_and_xj_of ratio in
@@ -60,11 +68,18 @@ compute_octant_of center a radius =
     let point_j = point xj yj in
     let circle_center = circle_center_through_of point_j point_m r in
     let circle_max_angle = angle_between_of (sub_of point_m circle_center) (sub_of point_j circle_center) in
-    record { offset = center; se_a = a; se_n = n; circle_start = point_j; circle_center = circle_center; circle_max_angle = circle_max_angle })
+    record {
+      offset = center;
+      se_a = a;
+      se_n = n;
+      circle_start = point_j;
+      circle_center = circle_center;
+      circle_max_angle = circle_max_angle;
+    })
 
 -- the octant with another offset
-unfoldable pub moved_of : Octant → Point → Octant
-moved_of octant center =
+unfoldable pub with_offset : Octant → Point → Octant
+with_offset octant center =
     record {
       offset = center;
       se_a = octant.se_a;

@@ -6,9 +6,9 @@
 ghost use Rattle.std.specs.Prelude.{◌≡◌, ◌+◌, ◌<◌, ◌^◌, map};
 ghost use Rattle.std.specs.Simd.Lanes.{zip2};
 ghost use Rattle.octant.specs.Degree.{corner_at, entry, left_row_of, table_steps_of, n_and_xj_of};
-ghost use Rattle.octant.specs.Octant.{circle_center_through_of, angle_between_of, compute_octant_of, moved_of};
-ghost use Rattle.octant.specs.Stages.{fitted_of, solve_of, arc_end_of, unturned_of, round_of};
-ghost use Rattle.octant.specs.declared.Unsolved.{Unsolved};
+ghost use Rattle.octant.specs.Octant.{circle_center_through_of, angle_between_of, compute_octant_of, with_offset};
+ghost use Rattle.octant.specs.Stages.{fit_of, solve_of, arc_end_of, octant_without_angle, round_octant_of};
+ghost use Rattle.octant.specs.declared.OctantFrame.{OctantFrame};
 
 use geometry::Point;
 
@@ -51,8 +51,8 @@ const THIRD_N_SLOPE: f32 = 1.559_599_4;
 
 const THIRD_KXJ_SLOPE: f32 = 0.522_807_2;
 
-/// One eighth of the outline, in the space of a corner with equal radii. A degree below 2 marks a square corner, and no enum does:
-/// document 01 has an octant as one record of floats and points.
+/// One eighth of the outline, in the space of a corner with equal radii: one record of floats and points. A degree
+/// below 2 marks a square corner.
 #[derive(Clone, Copy)]
 pub struct Octant {
     pub offset: Point,
@@ -63,16 +63,17 @@ pub struct Octant {
     pub circle_max_angle: f32,
 }
 
-/// The superellipse's degree, and where its arc ends as a part of the half-extent.
+// The superellipse's degree, and where its arc ends as a part of the half-extent.
 #[derive(Drop)]
-pub struct NAndXj {
-    pub n: f32,
-    pub xj_over_a: f32,
+struct NAndXj {
+    n: f32,
+    xj_over_a: f32,
 }
 
 #[tactic(auto, unfolding(crate::specs::Degree::corner_at))]
 fn corner(row: usize, column: usize) -> f32
-    requires { (row < 11) × (column < 2) }
+    requires row { row < 11 }
+    requires column { column < 2 }
     ensures { result ≡ corner_at row column }
 {
     CORNER_TABLE[row][column]
@@ -87,10 +88,14 @@ pub struct RowPair {
     pub next_second: f32,
 }
 
-/// The table is lent: a copy that is indexed by a variable would be written to the stack.
+/// The row of a table at `left`, and the next. The table is lent: a copy that is indexed by a variable would be written
+/// to the stack.
 pub fn rows_at<const N: usize>(table: &[[f32; 2]; N], left: usize) -> RowPair
     requires { left + 1 < N }
-    ensures { (result.first ≡ entry table.now left 0) × (result.second ≡ entry table.now left 1) × (result.next_first ≡ entry table.now (left + 1) 0) × (result.next_second ≡ entry table.now (left + 1) 1) }
+    ensures first { result.first ≡ entry table.now left 0 }
+    ensures second { result.second ≡ entry table.now left 1 }
+    ensures next_first { result.next_first ≡ entry table.now (left + 1) 0 }
+    ensures next_second { result.next_second ≡ entry table.now (left + 1) 1 }
 {
     RowPair {
         first: table[left][0],
@@ -121,9 +126,9 @@ fn table_steps(ratio: f32) -> f32
     (ratio - FIRST_MAX_RATIO) * SECOND_STEP_INVERSE + FIRST_NUM_RECORDS - 1.0
 }
 
-/// The degree n and xJ/a for a ratio of side to radius.
+// The degree n and xJ/a for a ratio of side to radius.
 #[tactic(auto, unfolding(crate::specs::Degree::n_and_xj_of, crate::specs::Degree::corner_at))]
-pub fn n_and_xj(ratio: f32) -> NAndXj
+fn n_and_xj(ratio: f32) -> NAndXj
     ensures { result ≡ n_and_xj_of ratio }
 {
     if ratio > SECOND_MAX_RATIO {
@@ -146,9 +151,9 @@ pub fn n_and_xj(ratio: f32) -> NAndXj
     }
 }
 
-/// The center of the circle of radius r through both a and b.
+// The center of the circle of radius r through both a and b.
 #[tactic(auto, using(crate::proofs::Turned::turned), unfolding(crate::specs::Octant::circle_center_through_of, geometry::specs::Point::normalize_of))]
-pub fn circle_center_through(a: Point, b: Point, r: f32) -> Point
+fn circle_center_through(a: Point, b: Point, r: f32) -> Point
     ensures { result ≡ circle_center_through_of a b r }
 {
     let a_to_b = b - a;
@@ -182,23 +187,24 @@ fn angles_between<const N: usize>(from: [Point; N], to: [Point; N]) -> [f32; N]
     lanes::pairwise(f, t, |f, t| t - f)
 }
 
-/// What an octant is solved from: the gap at the corner, the degree, and the x where the arcs meet, also as a part of the half-extent.
+// What an octant is solved from: the gap at the corner, the degree, and the x where the arcs meet, also as a part of
+// the half-extent.
 #[derive(Clone, Copy)]
-pub struct Fitted {
-    pub g: f32,
-    pub n: f32,
-    pub xj: f32,
-    pub xj_over_a: f32,
+struct Fit {
+    g: f32,
+    n: f32,
+    xj: f32,
+    xj_over_a: f32,
 }
 
-#[tactic(auto, unfolding(crate::specs::Stages::fitted_of))]
-pub fn fit(a: f32, radius: f32) -> Fitted
-    ensures { result ≡ fitted_of a radius }
+#[tactic(auto, unfolding(crate::specs::Stages::fit_of))]
+fn fit_octant(a: f32, radius: f32) -> Fit
+    ensures { result ≡ fit_of a radius }
 {
     let ratio = a * 2.0 / radius;
     let g = GAP_FACTOR * radius;
     let fit = n_and_xj(ratio);
-    Fitted {
+    Fit {
         g,
         n: fit.n,
         xj: fit.xj_over_a * a,
@@ -208,7 +214,7 @@ pub fn fit(a: f32, radius: f32) -> Fitted
 
 /// An octant before it is solved.
 #[derive(Clone, Copy)]
-pub struct Unsolved {
+pub struct OctantFrame {
     pub center: Point,
     pub a: f32,
     pub radius: f32,
@@ -224,16 +230,15 @@ struct Meeting {
 // An octant but for what follows its last power.
 #[derive(Clone, Copy)]
 struct Solve {
-    fit: Fitted,
+    fit: Fit,
     at: Meeting,
 }
 
-// N solves in step. Within a solve each power waits for the one before; a power of another solve need not, so that all are
-// worked out at once.
-fn solves<const N: usize>(u: [Unsolved; N]) -> [Solve; N]
+// N solves, batched: within a solve each power waits for the one before, but for no other solve's.
+fn solves<const N: usize>(u: [OctantFrame; N]) -> [Solve; N]
     ensures { result ≡ map solve_of u.entry }
 {
-    let s = lanes::each(u, |u| fit(u.a, u.radius));
+    let s = lanes::each(u, |u| fit_octant(u.a, u.radius));
     let n = lanes::each(s, |s| s.n);
     let first = exponential::powers(lanes::each(s, |s| s.xj_over_a), n);
     let rests = lanes::each(first, |p| 1.0 - p);
@@ -253,9 +258,9 @@ fn arc_end(a: f32, g: f32) -> Point
 }
 
 // The octant but for the angle of its circular arc, which is 0 here.
-#[tactic(auto, unfolding(crate::specs::Stages::unturned_of))]
-fn unturned(u: Unsolved, s: Solve) -> Octant
-    ensures { result ≡ unturned_of u s }
+#[tactic(auto, unfolding(crate::specs::Stages::octant_without_angle))]
+fn octant_without_angle(u: OctantFrame, s: Solve) -> Octant
+    ensures { result ≡ octant_without_angle u s }
 {
     let a = u.a;
     let xj = s.fit.xj;
@@ -275,12 +280,13 @@ fn unturned(u: Unsolved, s: Solve) -> Octant
     }
 }
 
-/// N octants that are round: none has a radius up to CLOSE_ENOUGH.
-pub fn round_octants<const N: usize>(u: [Unsolved; N]) -> [Octant; N]
-    ensures { result ≡ map round_of u.entry }
+/// N octants that are round, batched: none has a radius up to CLOSE_ENOUGH. N is a count of lanes, a power of 2 up to
+/// 64.
+pub fn round_octants<const N: usize>(u: [OctantFrame; N]) -> [Octant; N]
+    ensures { result ≡ map round_octant_of u.entry }
 {
     let s = solves(u);
-    let o = lanes::pairwise(u, s, unturned);
+    let o = lanes::pairwise(u, s, octant_without_angle);
     let from = lanes::pairwise(o, s, |o, s| arc_end(o.se_a, s.fit.g) - o.circle_center);
     let to = lanes::each(o, |o| o.circle_start - o.circle_center);
     let angles = angles_between(from, to);
@@ -294,6 +300,7 @@ pub fn round_octants<const N: usize>(u: [Unsolved; N]) -> [Octant; N]
     )
 }
 
+/// The octant of a corner: square, of degree 0, where the radius is at most CLOSE_ENOUGH.
 #[tactic(auto, unfolding(crate::specs::Octant::compute_octant_of))]
 pub fn compute_octant(center: Point, a: f32, radius: f32) -> Octant
     ensures { result ≡ compute_octant_of center a radius }
@@ -308,13 +315,13 @@ pub fn compute_octant(center: Point, a: f32, radius: f32) -> Octant
             circle_max_angle: 0.0,
         };
     }
-    let [o] = round_octants([Unsolved { center, a, radius }]);
+    let [o] = round_octants([OctantFrame { center, a, radius }]);
     o
 }
 
-/// N octants, in step where all are round.
-pub fn compute_octants<const N: usize>(u: [Unsolved; N]) -> [Octant; N]
-    ensures { result ≡ map (λ (o : Unsolved). compute_octant_of o.center o.a o.radius) u.entry }
+/// N octants, batched where all are round. N is a count of lanes, a power of 2 up to 64.
+pub fn compute_octants<const N: usize>(u: [OctantFrame; N]) -> [Octant; N]
+    ensures { result ≡ map (λ (o : OctantFrame). compute_octant_of o.center o.a o.radius) u.entry }
 {
     if lanes::all(u, |u| !(u.radius <= CLOSE_ENOUGH)) {
         return round_octants(u);
@@ -322,10 +329,10 @@ pub fn compute_octants<const N: usize>(u: [Unsolved; N]) -> [Octant; N]
     lanes::each(u, |u| compute_octant(u.center, u.a, u.radius))
 }
 
-/// The same octant elsewhere: nothing but the offset tells where an octant is.
-#[tactic(auto, unfolding(crate::specs::Octant::moved_of))]
-pub fn moved(octant: Octant, center: Point) -> Octant
-    ensures { result ≡ moved_of octant center }
+/// The same octant elsewhere: only the offset says where an octant is.
+#[tactic(auto, unfolding(crate::specs::Octant::with_offset))]
+pub fn with_offset(octant: Octant, center: Point) -> Octant
+    ensures { result ≡ with_offset octant center }
 {
     Octant {
         offset: center,

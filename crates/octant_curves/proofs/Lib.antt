@@ -1,2 +1,2 @@
--- Document 01's example of a conic weight.
+-- The worked example of a conic weight.
 pub mod Examples

@@ -69,12 +69,12 @@ intersection_of p1 k1 p2 k2 =
     point x (k1 ⊗ (x ⊖ p1.x) ⊕ p1.y))
 
 -- the height over a at which the two conics meet, for the circle's start at yj_over_a
-unfoldable pub meeting_of : ConicFactors → Float → Float
-meeting_of f yj_over_a = (one ⊗ f.yh_proportion ⊕ yj_over_a) ⊘ (f.yh_proportion ⊕ one)
+unfoldable pub meeting_height_of : ConicFactors → Float → Float
+meeting_height_of f yj_over_a = (one ⊗ f.yh_proportion ⊕ yj_over_a) ⊘ (f.yh_proportion ⊕ one)
 
 -- the two conics, by where they meet, the slope there, k_h, and the slope where the circle starts, k_j
-unfoldable pub joined_of : Octant → ConicFactors → Point → Float → Float → SuperellipseConics
-joined_of param f h k_h k_j =
+unfoldable pub conics_by_slopes : Octant → ConicFactors → Point → Float → Float → SuperellipseConics
+conics_by_slopes param f h k_h k_j =
     let a = point zero param.se_a in
     let j = param.circle_start in
     let k_a = zero in
@@ -88,14 +88,15 @@ joined_of param f h k_h k_j =
       a = a;
     }
 
--- superellipse_conics: A on the flat side, H between, J where the circle starts; the controls are where the tangents meet
+-- superellipse_conics: A on the flat side, H between, J where the circle starts; the controls are where the tangents
+-- meet
 unfoldable pub superellipse_conics_of : Octant → Float → SuperellipseConics
 superellipse_conics_of param yj_over_a =
     let n = param.se_n in
     let j = param.circle_start in
     let f = superellipse_conic_factors_of n (j.x ⊘ param.se_a) in
-    let yh_over_a = meeting_of f yj_over_a in
+    let yh_over_a = meeting_height_of f yj_over_a in
     let h = point (pow_of (one ⊖ pow_of yh_over_a n) (one ⊘ n) ⊗ param.se_a) (yh_over_a ⊗ param.se_a) in
     let k_j = neg (pow_of (j.x ⊘ j.y) (n ⊖ one)) in
     let k_h = neg (pow_of (h.x ⊘ h.y) (n ⊖ one)) in
-    joined_of param f h k_h k_j
+    conics_by_slopes param f h k_h k_j

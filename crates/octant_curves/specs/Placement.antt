@@ -5,10 +5,10 @@ use Rattle.geometry.specs.Point.{add_of, mul_of}
 use Rattle.octant.specs.Octant.{point}
 use Rattle.octant_curves.specs.declared.Placement.{Placement}
 
--- the point with its components exchanged, where it is flipped
-unfoldable pub flipped_of : Bool → Point → Point
-flipped_of flip p = if flip then point p.y p.x else p
+-- the point with its components exchanged, where `flip` says so
+unfoldable pub flipped_point : Bool → Point → Point
+flipped_point flip p = if flip then point p.y p.x else p
 
 -- Placement::apply
 unfoldable pub apply_of : Placement → Point → Point
-apply_of place p = add_of place.offset (mul_of place.scale (add_of place.octant_offset (flipped_of place.flip p)))
+apply_of place p = add_of place.offset (mul_of place.scale (add_of place.octant_offset (flipped_point place.flip p)))

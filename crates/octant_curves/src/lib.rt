@@ -5,11 +5,11 @@
 #![tactic(auto)]
 
 ghost use Rattle.std.specs.Prelude.{◌≡◌, ◌+◌, ◌<◌, ◌^◌, map};
-ghost use Rattle.octant_curves.specs.Conics.{capped_degree, superellipse_conic_factors_of, intersection_of, meeting_of, joined_of, superellipse_conics_of};
+ghost use Rattle.octant_curves.specs.Conics.{capped_degree, superellipse_conic_factors_of, intersection_of, meeting_height_of, conics_by_slopes, superellipse_conics_of};
 ghost use Rattle.octant_curves.specs.Circle.{arc_points_of, circular_arc_points_of};
-ghost use Rattle.octant_curves.specs.Placement.{flipped_of, apply_of};
+ghost use Rattle.octant_curves.specs.Placement.{flipped_point, apply_of};
 ghost use Rattle.std.specs.Simd.Lanes.{zip2};
-ghost use Rattle.octant_curves.specs.Octants.{start_of, ratio_of, met_of, drawn_of, conics_of};
+ghost use Rattle.octant_curves.specs.Octants.{start_of, ratio_of, meeting_point_of, conics_from, conics_of};
 
 use geometry::Point;
 use octant::Octant;
@@ -35,14 +35,16 @@ const STEP: f32 = 1.0;
 
 const MIN_N: f32 = 2.0;
 
+// The weights of an octant's two conics, and the proportion in which the height where they meet lies.
 #[derive(Clone, Copy)]
-pub struct ConicFactors {
-    pub weight1: f32,
-    pub weight2: f32,
-    pub yh_proportion: f32,
+struct ConicFactors {
+    weight1: f32,
+    weight2: f32,
+    yh_proportion: f32,
 }
 
-/// Two conics, from a on the flat side to h with the control c1, and on to j, where the circle starts, with the control c2.
+/// Two conics, from a on the flat side to h with the control c1, and on to j, where the circle starts, with the control
+/// c2.
 #[derive(Clone, Copy)]
 pub struct SuperellipseConics {
     pub c1: Point,
@@ -75,10 +77,10 @@ fn capped_degree(n: f32) -> f32
     n
 }
 
-/// Only the right-hand term of each interpolation is multiplied by the root or by xj_over_a: the weights drop back to
-/// the table's at each whole degree.
+// The factors for a degree. Only the right-hand term of each interpolation is multiplied by the root or by xj_over_a:
+// the weights drop back to the table's at each whole degree.
 #[tactic(auto, unfolding(crate::specs::Conics::superellipse_conic_factors_of, crate::specs::Conics::conic_at))]
-pub fn superellipse_conic_factors(n: f32, xj_over_a: f32) -> ConicFactors
+fn superellipse_conic_factors(n: f32, xj_over_a: f32) -> ConicFactors
     ensures { result ≡ superellipse_conic_factors_of n xj_over_a }
 {
     let capped = capped_degree(n);
@@ -96,9 +98,9 @@ pub fn superellipse_conic_factors(n: f32, xj_over_a: f32) -> ConicFactors
     }
 }
 
-/// The intersection of two lines, each given by a point and a slope.
+// The intersection of two lines, each given by a point and a slope.
 #[tactic(auto, unfolding(crate::specs::Conics::intersection_of))]
-pub fn intersection(p1: Point, k1: f32, p2: Point, k2: f32) -> Point
+fn intersection(p1: Point, k1: f32, p2: Point, k2: f32) -> Point
     ensures { result ≡ intersection_of p1 k1 p2 k2 }
 {
     if ieee::abs(k1 - k2) < octant::CLOSE_ENOUGH {
@@ -111,10 +113,16 @@ pub fn intersection(p1: Point, k1: f32, p2: Point, k2: f32) -> Point
     }
 }
 
-/// The conics of an octant whose first ends at h, by the slopes there and where the circle starts.
-#[tactic(auto, unfolding(crate::specs::Conics::joined_of))]
-pub fn joined(param: Octant, f: ConicFactors, h: Point, k_h: f32, k_j: f32) -> SuperellipseConics
-    ensures { result ≡ joined_of param f h k_h k_j }
+// The conics of an octant whose first ends at h, by the slopes there and where the circle starts.
+#[tactic(auto, unfolding(crate::specs::Conics::conics_by_slopes))]
+fn conics_by_slopes(
+    param: Octant,
+    f: ConicFactors,
+    h: Point,
+    k_h: f32,
+    k_j: f32,
+) -> SuperellipseConics
+    ensures { result ≡ conics_by_slopes param f h k_h k_j }
 {
     let a = Point {
         x: 0.0,
@@ -133,16 +141,16 @@ pub fn joined(param: Octant, f: ConicFactors, h: Point, k_h: f32, k_j: f32) -> S
     }
 }
 
-/// The height over a at which the conics meet.
-#[tactic(auto, unfolding(crate::specs::Conics::meeting_of))]
-pub fn meeting(f: ConicFactors, yj_over_a: f32) -> f32
-    ensures { result ≡ meeting_of f yj_over_a }
+// The height at which the conics meet, as a part of the half-extent.
+#[tactic(auto, unfolding(crate::specs::Conics::meeting_height_of))]
+fn meeting_height(f: ConicFactors, yj_over_a: f32) -> f32
+    ensures { result ≡ meeting_height_of f yj_over_a }
 {
     (1.0 * f.yh_proportion + yj_over_a) / (f.yh_proportion + 1.0)
 }
 
-/// The circular arc as a cubic, from the sine and cosine of minus its angle and the tangent of a quarter of it.
-pub fn arc_points(param: Octant, sin: f32, cos: f32, tan: f32) -> [Point; 4]
+// The circular arc as a cubic, from the sine and cosine of minus its angle and the tangent of a quarter of it.
+fn arc_points(param: Octant, sin: f32, cos: f32, tan: f32) -> [Point; 4]
     ensures { result ≡ arc_points_of param sin cos tan }
 {
     let start = param.circle_start;
@@ -172,9 +180,9 @@ pub fn arc_points(param: Octant, sin: f32, cos: f32, tan: f32) -> [Point; 4]
     [start, control1, control2, circle_end]
 }
 
-#[tactic(auto, unfolding(crate::specs::Placement::flipped_of))]
-fn flipped(flip: bool, p: Point) -> Point
-    ensures { result ≡ flipped_of flip p }
+#[tactic(auto, unfolding(crate::specs::Placement::flipped_point))]
+fn flipped_point(flip: bool, p: Point) -> Point
+    ensures { result ≡ flipped_point flip p }
 {
     if flip {
         return Point { x: p.y, y: p.x };
@@ -183,11 +191,12 @@ fn flipped(flip: bool, p: Point) -> Point
 }
 
 impl Placement {
+    /// Where a point of the octant's own space stands in the shape's.
     #[tactic(auto, unfolding(crate::specs::Placement::apply_of))]
     pub fn apply(self, p: Point) -> Point
         ensures { result ≡ apply_of self p }
     {
-        let own = self.octant_offset + flipped(self.flip, p);
+        let own = self.octant_offset + flipped_point(self.flip, p);
         self.offset + self.scale * own
     }
 }
@@ -214,14 +223,12 @@ struct End {
     slopes: Slopes,
 }
 
-fn started(octant: Octant, yj_over_a: f32) -> Start
+// The same of an octant, by the height where its circle starts, as a part of its half-extent.
+fn start_of(octant: Octant, yj_over_a: f32) -> Start
     ensures { result ≡ start_of octant yj_over_a }
 {
-    let factors = superellipse_conic_factors(
-        octant.se_n,
-        octant.circle_start.x / octant.se_a,
-    );
-    let y = meeting(factors, yj_over_a);
+    let factors = superellipse_conic_factors(octant.se_n, octant.circle_start.x / octant.se_a);
+    let y = meeting_height(factors, yj_over_a);
     Start { octant, factors, y }
 }
 
@@ -233,8 +240,8 @@ fn ratio(p: Point) -> f32
 }
 
 // Where the conics of an octant meet.
-fn met(s: Start, x: f32) -> Point
-    ensures { result ≡ met_of s x }
+fn meeting_point(s: Start, x: f32) -> Point
+    ensures { result ≡ meeting_point_of s x }
 {
     Point {
         x: x * s.octant.se_a,
@@ -242,9 +249,9 @@ fn met(s: Start, x: f32) -> Point
     }
 }
 
-// The superellipse arcs of N octants that are started. The tangents fall, by as much as the slopes.
-fn drawn<const N: usize>(s: [Start; N]) -> [SuperellipseConics; N]
-    ensures { result ≡ map drawn_of s.entry }
+// The superellipse arcs of N octants, batched. The tangents fall, by as much as the slopes.
+fn conics_from<const N: usize>(s: [Start; N]) -> [SuperellipseConics; N]
+    ensures { result ≡ map conics_from s.entry }
 {
     let n = lanes::each(s, |s| s.octant.se_n);
     let less = lanes::each(n, |n| n - 1.0);
@@ -252,29 +259,29 @@ fn drawn<const N: usize>(s: [Start; N]) -> [SuperellipseConics; N]
     let (powers, at_j) = exponential::powers_of_both(lanes::each(s, |s| s.y), n, at_circle, less);
     let rests = lanes::each(powers, |p| 1.0 - p);
     let roots = exponential::powers(rests, lanes::each(n, |n| 1.0 / n));
-    let h = lanes::pairwise(s, roots, met);
+    let h = lanes::pairwise(s, roots, meeting_point);
     let at_h = exponential::powers(lanes::each(h, ratio), less);
     let slopes = lanes::pairwise(at_h, at_j, |at_h, at_j| Slopes { at_h, at_j });
     let ends = lanes::pairwise(h, slopes, |h, slopes| End { h, slopes });
     lanes::pairwise(s, ends, |s, e| {
-        joined(s.octant, s.factors, e.h, -e.slopes.at_h, -e.slopes.at_j)
+        conics_by_slopes(s.octant, s.factors, e.h, -e.slopes.at_h, -e.slopes.at_j)
     })
 }
 
-/// The superellipse arcs of N octants, each by the height where its circle starts, as a part of its half-extent. The bound
-/// on N, here and below: N records `Start` fit in memory, which the types of the arguments and the result do not say, since
-/// a `Start` is larger.
-pub fn superellipse_conics<const N: usize>(
+// The superellipse arcs of N octants, each by the height where its circle starts, as a part of its half-extent. The
+// bound on N, here and below: N records `Start` fit in memory, which the types of the arguments and the result do not
+// say, since a `Start` is larger.
+fn superellipse_conics<const N: usize>(
     o: [Octant; N],
     yj_over_a: [f32; N],
 ) -> [SuperellipseConics; N]
     requires { N < 2 ^ 57 }
     ensures { result ≡ zip2 superellipse_conics_of o.entry yj_over_a.entry }
 {
-    drawn(lanes::pairwise(o, yj_over_a, started))
+    conics_from(lanes::pairwise(o, yj_over_a, start_of))
 }
 
-/// The same by the octants' own heights.
+/// The superellipse arcs of N octants as two conics each, batched. N is a count of lanes, a power of 2 up to 64.
 pub fn conics<const N: usize>(o: [Octant; N]) -> [SuperellipseConics; N]
     requires { N < 2 ^ 57 }
     ensures { result ≡ map conics_of o.entry }
@@ -290,14 +297,26 @@ struct Turn {
     tan: f32,
 }
 
+// The circular arc of an octant that is turned so.
 fn arc(o: Octant, t: Turn) -> [Point; 4]
     ensures { result ≡ arc_points_of o t.sin t.cos t.tan }
 {
     arc_points(o, t.sin, t.cos, t.tan)
 }
 
-/// The circular arcs of N octants, each as a cubic: start, two controls, end.
-pub fn circular_arc_points<const N: usize>(o: [Octant; N]) -> [[Point; 4]; N]
+/// The circular arc of an octant as a cubic: start, two controls, end.
+#[tactic(auto, unfolding(crate::specs::Circle::circular_arc_points_of))]
+pub fn circular_arc_points(param: Octant) -> [Point; 4]
+    ensures { result ≡ circular_arc_points_of param }
+{
+    let turn = trigonometry::sin_cos(-param.circle_max_angle);
+    let tan = trigonometry::tan(param.circle_max_angle / 4.0);
+    arc_points(param, turn.sin, turn.cos, tan)
+}
+
+/// The circular arcs of N octants, batched: each as `circular_arc_points` has it. N is a count of lanes, a power of 2
+/// up to 64.
+pub fn circular_arcs<const N: usize>(o: [Octant; N]) -> [[Point; 4]; N]
     ensures { result ≡ map circular_arc_points_of o.entry }
 {
     let turns = trigonometry::sines_and_cosines(lanes::each(o, |o| -o.circle_max_angle));

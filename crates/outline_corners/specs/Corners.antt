@@ -1,5 +1,6 @@
--- The calls that the Rust's `add_to`, `add_quadrant` and `add_octant` make on the path builder, with its names and in its order. Definitions only.
-use Rattle.std.specs.Prelude.{List, [], ◌∷◌, ◌++◌, Bool, true, false, ℕ, get_or, Float, if◌then◌else◌}
+-- The calls that the Rust's `add_to`, `add_quadrant` and `add_octant` make on the path builder, with its names and from
+-- `add_octant` upwards. Definitions only.
+use Rattle.std.specs.Prelude.{List, [], ◌∷◌, ◌++◌, Bool, true, false, ◌||◌, ℕ, get_or, Float, if◌then◌else◌}
 use Rattle.std.specs.Float.{nan}
 use Rattle.std.specs.Float.Ieee.{neg}
 use Rattle.geometry.specs.declared.Point.{Point}
@@ -18,13 +19,19 @@ use Rattle.calls.specs.declared.Call.{Call}
 use Rattle.calls.specs.declared.Call.TheVariants.{LineTo, ConicTo, CubicTo}
 use Rattle.outline_corners.specs.declared.Curves.{Curves}
 
--- what is drawn of an octant, in its own space: the circular arc's four points and the two conics of the superellipse's arc
+-- what is drawn of an octant, in its own space: the circular arc's four points and the two conics of the superellipse's
+-- arc
 unfoldable pub curves_of : Octant → Curves
-curves_of param = record { circle = circular_arc_points_of param; conics = superellipse_conics_of param (param.circle_start.y ⊘ param.se_a) }
+curves_of param =
+    record {
+      circle = circular_arc_points_of param;
+      conics = superellipse_conics_of param (param.circle_start.y ⊘ param.se_a);
+    }
 
 -- where an octant is placed
 abbrev pub placement_of : Octant → Point → Point → Bool → Placement
-placement_of param offset scale flip = record { offset = offset; scale = scale; octant_offset = param.offset; flip = flip }
+placement_of param offset scale flip =
+    record { offset = offset; scale = scale; octant_offset = param.offset; flip = flip }
 
 -- one of an array's four points
 abbrev pub point_at : List Point → ℕ → Point
@@ -66,7 +73,8 @@ octant_calls param offset scale reverse flip =
 -- where the second line of a square corner goes
 unfoldable pub next_of : Quadrant → Bool → Point
 next_of param reverse =
-    if reverse then add_of param.top.offset (point zero param.top.se_a) else add_of param.right.offset (point param.right.se_a zero)
+    if reverse then add_of param.top.offset (point zero param.top.se_a)
+    else add_of param.right.offset (point param.right.se_a zero)
 
 -- the two arms of add_quadrant: two lines, or two octants, the one drawn second backwards
 unfoldable pub square_calls : Quadrant → Bool → Point → List Call
@@ -82,11 +90,12 @@ round_calls param reverse scale =
     else octant_calls param.top param.offset scale false false ++ octant_calls param.right param.offset scale true true
 
 -- a round corner, where the curves of its octants are given
-unfoldable pub solved_calls : Quadrant → Curves → Curves → Bool → Point → List Call
-solved_calls param top right reverse scale =
+unfoldable pub calls_by_curves : Quadrant → Curves → Curves → Bool → Point → List Call
+calls_by_curves param top right reverse scale =
     let from_top = placement_of param.top param.offset scale false in
     let from_right = placement_of param.right param.offset scale true in
-    if reverse then forwards_calls from_right right ++ backwards_calls from_top top else forwards_calls from_top top ++ backwards_calls from_right right
+    if reverse then forwards_calls from_right right ++ backwards_calls from_top top
+    else forwards_calls from_top top ++ backwards_calls from_right right
 
 -- add_quadrant
 unfoldable pub corner_calls : Quadrant → Bool → Point → List Call
@@ -113,6 +122,18 @@ unequal_corners shape =
     ∷ corner_calls shape.bottom_left false (point one one)
     ∷ corner_calls shape.top_left true (point one one)
     ∷ []
+
+-- a corner's scale, not reflected
+abbrev pub whole_scale : Quadrant → Point
+whole_scale param = mul_of param.signed_scale (point one one)
+
+-- a corner of the shape is square
+abbrev pub any_square : RoundSuperellipse → Bool
+any_square shape =
+    square_corner shape.top_right
+    || square_corner shape.bottom_right
+    || square_corner shape.bottom_left
+    || square_corner shape.top_left
 
 unfoldable pub corners_of : RoundSuperellipse → List (List Call)
 corners_of shape = if shape.all_corners_same then equal_corners shape.top_right else unequal_corners shape

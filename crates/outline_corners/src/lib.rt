@@ -3,17 +3,13 @@
 
 #![tactic(auto)]
 
-ghost use Rattle.std.specs.Prelude.{◌≡◌, true, false, ◌||◌};
-ghost use Rattle.ieee.specs.Binary32.{one};
-ghost use Rattle.geometry.specs.Point.{mul_of};
-ghost use Rattle.octant.specs.Octant.{point};
-ghost use Rattle.quadrant.specs.Quadrant.{square_corner};
-ghost use Rattle.outline_corners.specs.Corners.{curves_of, placement_of, placed_conic, placed_cubic, forwards_calls, backwards_calls, next_of, square_calls, round_calls, solved_calls, corner_calls, equal_corners, unequal_corners, corners_of, start_point};
+ghost use Rattle.std.specs.Prelude.{◌≡◌, true, false};
+ghost use Rattle.outline_corners.specs.Corners.{curves_of, placement_of, placed_conic, placed_cubic, forwards_calls, backwards_calls, next_of, square_calls, round_calls, whole_scale, any_square, calls_by_curves, corner_calls, equal_corners, unequal_corners, corners_of, start_point};
 ghost use Rattle.outline_corners.specs.Calls.{conic_call, cubic_call, calls_forwards, calls_backwards, calls_of, call_lists, drawing_of, outline_of};
 
-use octant_curves::{Placement, SuperellipseConics};
 use geometry::Point;
 use octant::Octant;
+use octant_curves::{Placement, SuperellipseConics};
 use quadrant::Quadrant;
 use shape::RoundSuperellipse;
 
@@ -31,7 +27,7 @@ struct BothCurves {
     right: Curves,
 }
 
-/// A conic from the pen, and a cubic.
+/// A conic from the pen.
 #[derive(Clone, Copy)]
 pub struct ConicArc {
     pub ctrl: Point,
@@ -39,6 +35,7 @@ pub struct ConicArc {
     pub weight: f32,
 }
 
+/// A cubic from the pen.
 #[derive(Clone, Copy)]
 pub struct CubicArc {
     pub c0: Point,
@@ -46,8 +43,8 @@ pub struct CubicArc {
     pub to: Point,
 }
 
-/// What is drawn of an octant: forwards, from the flat side on, the conics and then the cubic; backwards the cubic, then the
-/// second conic and the first.
+/// What is drawn of an octant: forwards, from the flat side on, the conics and then the cubic; backwards the cubic,
+/// then the second conic and the first.
 #[derive(Clone, Copy)]
 pub struct OctantArcs {
     pub first: ConicArc,
@@ -62,14 +59,15 @@ pub struct RoundCorner {
     pub backwards: OctantArcs,
 }
 
+/// What is drawn of a corner: two lines, by where they end, or curves.
 #[derive(Clone, Copy)]
 pub enum Corner {
     Square(Point, Point),
     Round(RoundCorner),
 }
 
-/// Four fields, not an array: the definitions have an array as a list of any length, and each law of a drawn outline
-/// (`drawn-sizes` in contour) would ask for its length.
+/// The four corners in drawing order. Four fields, not an array: the definitions have an array as a list of any
+/// length, and each law of a drawn outline would ask for its length.
 #[derive(Clone, Copy)]
 pub struct Corners {
     pub first: Corner,
@@ -78,7 +76,7 @@ pub struct Corners {
     pub fourth: Corner,
 }
 
-/// Begun by a move to the start, ended by a line to it and a close.
+/// An outline: a move to the start, the corners, a line to the start and a close.
 #[derive(Clone, Copy)]
 pub struct Outline {
     pub start: Point,
@@ -86,13 +84,14 @@ pub struct Outline {
 }
 
 // What is drawn of both octants of a corner.
-fn both(
+fn both_curves(
     top_circle: [Point; 4],
     right_circle: [Point; 4],
     top_conics: SuperellipseConics,
     right_conics: SuperellipseConics,
 ) -> BothCurves
-    ensures { (result.top ≡ record { circle = top_circle; conics = top_conics }) × (result.right ≡ record { circle = right_circle; conics = right_conics }) }
+    ensures top { result.top ≡ record { circle = top_circle; conics = top_conics } }
+    ensures right { result.right ≡ record { circle = right_circle; conics = right_conics } }
 {
     BothCurves {
         top: Curves {
@@ -106,13 +105,27 @@ fn both(
     }
 }
 
+// The curves of an octant.
+#[tactic(auto, unfolding(crate::specs::Corners::curves_of))]
+fn curves_of(param: Octant) -> Curves
+    ensures { result ≡ curves_of param }
+{
+    let [conics] = octant_curves::conics([param]);
+    Curves {
+        circle: octant_curves::circular_arc_points(param),
+        conics,
+    }
+}
+
+// The curves of a corner's octants, batched.
 #[tactic(auto, unfolding(crate::specs::Corners::curves_of))]
 fn solve(top: Octant, right: Octant) -> BothCurves
-    ensures { (result.top ≡ curves_of top) × (result.right ≡ curves_of right) }
+    ensures top { result.top ≡ curves_of top }
+    ensures right { result.right ≡ curves_of right }
 {
-    let [top_circle, right_circle] = octant_curves::circular_arc_points([top, right]);
+    let [top_circle, right_circle] = octant_curves::circular_arcs([top, right]);
     let [top_conics, right_conics] = octant_curves::conics([top, right]);
-    both(top_circle, right_circle, top_conics, right_conics)
+    both_curves(top_circle, right_circle, top_conics, right_conics)
 }
 
 fn placement(param: Octant, offset: Point, scale: Point, flip: bool) -> Placement
@@ -149,7 +162,8 @@ fn cubic_arc(place: Placement, c0: Point, c1: Point, to: Point) -> CubicArc
     }
 }
 
-// The two arms of the Rust's add_octant. One function would choose each of the points that they read differently.
+// The two arms of the Rust's add_octant. The array of the arc's four points is read forwards in one and backwards in
+// the other.
 #[tactic(auto, unfolding(crate::specs::Corners::forwards_calls))]
 fn place_forwards(place: Placement, curves: Curves) -> OctantArcs
     ensures { calls_forwards result ≡ forwards_calls place curves }
@@ -206,9 +220,9 @@ fn square_corner(param: Quadrant, reverse: bool, scale: Point) -> Corner
 }
 
 // The octant that is drawn first goes forwards, the other backwards; the right one is flipped.
-#[tactic(auto, unfolding(crate::specs::Corners::solved_calls))]
+#[tactic(auto, unfolding(crate::specs::Corners::calls_by_curves))]
 fn round_corner(param: Quadrant, top: Curves, right: Curves, reverse: bool, scale: Point) -> Corner
-    ensures { calls_of result ≡ solved_calls param top right reverse scale }
+    ensures { calls_of result ≡ calls_by_curves param top right reverse scale }
 {
     let from_top = placement(param.top, param.offset, scale, false);
     let from_right = placement(param.right, param.offset, scale, true);
@@ -224,6 +238,7 @@ fn round_corner(param: Quadrant, top: Curves, right: Curves, reverse: bool, scal
     })
 }
 
+// One corner by itself.
 fn draw_corner(param: Quadrant, reverse: bool, scale_sign: Point) -> Corner
     ensures { calls_of result ≡ corner_calls param reverse scale_sign }
 {
@@ -231,10 +246,13 @@ fn draw_corner(param: Quadrant, reverse: bool, scale_sign: Point) -> Corner
     if param.is_square() {
         return square_corner(param, reverse, scale);
     }
-    let solved = solve(param.top, param.right);
-    let top = solved.top;
-    let right = solved.right;
-    round_corner(param, top, right, reverse, scale)
+    round_corner(
+        param,
+        curves_of(param.top),
+        curves_of(param.right),
+        reverse,
+        scale,
+    )
 }
 
 // One quadrant, drawn four ways.
@@ -253,9 +271,9 @@ fn equal_corners(tr: Quadrant) -> Corners
             fourth: square_corner(tr, true, scale4),
         };
     }
-    let solved = solve(tr.top, tr.right);
-    let top = solved.top;
-    let right = solved.right;
+    let curves = solve(tr.top, tr.right);
+    let top = curves.top;
+    let right = curves.right;
     Corners {
         first: round_corner(tr, top, right, false, scale1),
         second: round_corner(tr, top, right, true, scale2),
@@ -264,30 +282,34 @@ fn equal_corners(tr: Quadrant) -> Corners
     }
 }
 
-// A solved corner, not reflected.
-fn round_one(param: Quadrant, solved: BothCurves, reverse: bool) -> Corner
-    ensures { calls_of result ≡ solved_calls param solved.top solved.right reverse (mul_of param.signed_scale (point one one)) }
+// A round corner by its octants' curves, not reflected.
+fn round_one(param: Quadrant, curves: BothCurves, reverse: bool) -> Corner
+    ensures { calls_of result
+        ≡ calls_by_curves param curves.top curves.right reverse (whole_scale param) }
 {
     let scale = param.signed_scale * Point { x: 1.0, y: 1.0 };
-    let top = solved.top;
-    let right = solved.right;
+    let top = curves.top;
+    let right = curves.right;
     round_corner(param, top, right, reverse, scale)
 }
 
-// Four round corners, all eight octants in step.
+// Four round corners, all eight octants batched.
 fn draw_round(p: Quadrant, q: Quadrant, r: Quadrant, s: Quadrant) -> Corners
-    ensures { (calls_of result.first ≡ round_calls p false (mul_of p.signed_scale (point one one))) × (calls_of result.second ≡ round_calls q true (mul_of q.signed_scale (point one one))) × (calls_of result.third ≡ round_calls r false (mul_of r.signed_scale (point one one))) × (calls_of result.fourth ≡ round_calls s true (mul_of s.signed_scale (point one one))) }
+    ensures first { calls_of result.first ≡ round_calls p false (whole_scale p) }
+    ensures second { calls_of result.second ≡ round_calls q true (whole_scale q) }
+    ensures third { calls_of result.third ≡ round_calls r false (whole_scale r) }
+    ensures fourth { calls_of result.fourth ≡ round_calls s true (whole_scale s) }
 {
     let octants = [
         p.top, p.right, q.top, q.right, r.top, r.right, s.top, s.right,
     ];
-    let a = octant_curves::circular_arc_points(octants);
+    let a = octant_curves::circular_arcs(octants);
     let c = octant_curves::conics(octants);
     Corners {
-        first: round_one(p, both(a[0], a[1], c[0], c[1]), false),
-        second: round_one(q, both(a[2], a[3], c[2], c[3]), true),
-        third: round_one(r, both(a[4], a[5], c[4], c[5]), false),
-        fourth: round_one(s, both(a[6], a[7], c[6], c[7]), true),
+        first: round_one(p, both_curves(a[0], a[1], c[0], c[1]), false),
+        second: round_one(q, both_curves(a[2], a[3], c[2], c[3]), true),
+        third: round_one(r, both_curves(a[4], a[5], c[4], c[5]), false),
+        fourth: round_one(s, both_curves(a[6], a[7], c[6], c[7]), true),
     }
 }
 
@@ -305,8 +327,9 @@ fn draw_apart(shape: RoundSuperellipse) -> Corners
     }
 }
 
+// Whether a corner is square.
 fn any_square(shape: RoundSuperellipse) -> bool
-    ensures { result ≡ square_corner shape.top_right || square_corner shape.bottom_right || square_corner shape.bottom_left || square_corner shape.top_left }
+    ensures { result ≡ any_square shape }
 {
     shape.top_right.is_square()
         || shape.bottom_right.is_square()
@@ -314,7 +337,7 @@ fn any_square(shape: RoundSuperellipse) -> bool
         || shape.top_left.is_square()
 }
 
-// A square corner has no curves, so that there is none to keep step with.
+// The four corners in one batch, unless one is square: that one has no curves.
 fn unequal_corners(shape: RoundSuperellipse) -> Corners
     ensures { call_lists result ≡ unequal_corners shape }
 {
@@ -339,6 +362,7 @@ fn draw_corners(shape: RoundSuperellipse) -> Corners
     unequal_corners(shape)
 }
 
+// Where the outline starts.
 #[tactic(auto, unfolding(crate::specs::Corners::start_point))]
 fn start_point(tr: Quadrant) -> Point
     ensures { result ≡ start_point tr }
@@ -351,6 +375,7 @@ fn start_point(tr: Quadrant) -> Point
     tr.offset + tr.signed_scale * side
 }
 
+/// The outline of a shape, as the Rust's add_to draws it.
 #[tactic(auto, unfolding(crate::specs::Calls::outline_of))]
 pub fn draw(shape: RoundSuperellipse) -> Outline
     ensures { drawing_of result ≡ outline_of shape }

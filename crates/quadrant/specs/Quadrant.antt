@@ -7,9 +7,16 @@ use Rattle.geometry.specs.Point.{sub_of, div_of, shrink_of, abs_point}
 use Rattle.ieee.specs.Binary32.{◌⊕◌, ◌⊖◌, ◌⊗◌, ◌⊘◌, zero, two, one}
 use Rattle.octant.specs.Octant.{point, compute_octant_of}
 use Rattle.octant.specs.declared.Octant.{Octant}
-use Rattle.octant.specs.declared.Unsolved.{Unsolved}
+use Rattle.octant.specs.declared.OctantFrame.{OctantFrame}
 use Rattle.quadrant.specs.declared.Frame.{Frame}
 use Rattle.quadrant.specs.declared.Quadrant.{Quadrant}
+
+-- the radii, each at most as great as the corner's extent
+abbrev pub lesser_radii : Point → Point → Point
+lesser_radii in_radii corner_vector =
+    let x = min_of (abs_of in_radii.x) (abs_of corner_vector.x) in
+    let y = min_of (abs_of in_radii.y) (abs_of corner_vector.y) in
+    point x y
 
 -- how far the corner is stretched from a circular one: nothing where the lesser radius is zero
 unfoldable pub forward_scale_of : Point → Float → Point
@@ -23,7 +30,7 @@ or_sign_of raw sign = if ne raw raw then sign else raw
 unfoldable pub compute_quadrant_of : Point → Point → Point → Point → Quadrant
 compute_quadrant_of center corner in_radii sign =
     let corner_vector = sub_of corner center in
-    let radii = point (min_of (abs_of in_radii.x) (abs_of corner_vector.x)) (min_of (abs_of in_radii.y) (abs_of corner_vector.y)) in
+    let radii = lesser_radii in_radii corner_vector in
     let norm_radius = min_of radii.x radii.y in
     let forward_scale = forward_scale_of radii norm_radius in
     let norm_half_size = div_of (abs_point corner_vector) forward_scale in
@@ -37,13 +44,14 @@ compute_quadrant_of center corner in_radii sign =
       right = compute_octant_of (point c zero) norm_half_size.y norm_radius;
     }
 
--- ---- compute_quadrant in two steps, so that the octants of several corners can be solved in step. `framed` says that they make it up.
+-- ---- compute_quadrant in two steps, so that the octants of several corners can be solved in one batch:
+-- `quadrant_of` of a corner's frame is its quadrant
 
 -- the corner before its octants are solved
 unfoldable pub frame_of : Point → Point → Point → Point → Frame
 frame_of center corner in_radii sign =
     let corner_vector = sub_of corner center in
-    let radii = point (min_of (abs_of in_radii.x) (abs_of corner_vector.x)) (min_of (abs_of in_radii.y) (abs_of corner_vector.y)) in
+    let radii = lesser_radii in_radii corner_vector in
     let norm_radius = min_of radii.x radii.y in
     let forward_scale = forward_scale_of radii norm_radius in
     let norm_half_size = div_of (abs_point corner_vector) forward_scale in
@@ -63,19 +71,19 @@ unfoldable pub right_offset_of : Frame → Point
 right_offset_of f = point (f.half_size.x ⊖ f.half_size.y) zero
 
 -- the octants, unsolved
-abbrev pub top_octant_of : Frame → Unsolved
+abbrev pub top_octant_of : Frame → OctantFrame
 top_octant_of f = record { center = top_offset_of f; a = f.half_size.x; radius = f.radius }
 
-abbrev pub right_octant_of : Frame → Unsolved
+abbrev pub right_octant_of : Frame → OctantFrame
 right_octant_of f = record { center = right_offset_of f; a = f.half_size.y; radius = f.radius }
 
 -- the quadrant with given octants
-abbrev pub joined_of : Frame → Octant → Octant → Quadrant
-joined_of f top right = record { offset = f.offset; signed_scale = f.signed_scale; top = top; right = right }
+abbrev pub quadrant_with : Frame → Octant → Octant → Quadrant
+quadrant_with f top right = record { offset = f.offset; signed_scale = f.signed_scale; top = top; right = right }
 
--- the quadrant
-unfoldable pub solved_of : Frame → Quadrant
-solved_of f =
+-- the quadrant of a frame
+unfoldable pub quadrant_of : Frame → Quadrant
+quadrant_of f =
     record {
       offset = f.offset;
       signed_scale = f.signed_scale;

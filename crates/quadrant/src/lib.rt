@@ -4,10 +4,10 @@
 #![tactic(auto)]
 
 ghost use Rattle.std.specs.Prelude.{◌≡◌, true, map};
-ghost use Rattle.quadrant.specs.Quadrant.{forward_scale_of, or_sign_of, frame_of, top_offset_of, right_offset_of, top_octant_of, right_octant_of, joined_of, solved_of, compute_quadrant_of, split_of, square_corner};
+ghost use Rattle.quadrant.specs.Quadrant.{forward_scale_of, or_sign_of, frame_of, top_offset_of, right_offset_of, top_octant_of, right_octant_of, quadrant_with, quadrant_of, compute_quadrant_of, split_of, square_corner};
 
 use geometry::Point;
-use octant::{Octant, Unsolved};
+use octant::{Octant, OctantFrame};
 
 /// Two octants that meet on the diagonal.
 #[derive(Clone, Copy)]
@@ -72,6 +72,8 @@ pub struct Frame {
     pub radius: f32,
 }
 
+/// A corner's frame, from the quadrant's center, the corner, its radii and the signs that stand in for a scale that
+/// is a NaN.
 #[tactic(auto, unfolding(crate::specs::Quadrant::frame_of))]
 pub fn frame_of(center: Point, corner: Point, in_radii: Point, sign: Point) -> Frame
     ensures { result ≡ frame_of center corner in_radii sign }
@@ -97,9 +99,9 @@ pub fn frame_of(center: Point, corner: Point, in_radii: Point, sign: Point) -> F
     }
 }
 
-/// The two octants' superellipses are offset by the same distance in opposite directions.
+// The two octants' superellipses are offset by the same distance in opposite directions.
 #[tactic(auto, unfolding(crate::specs::Quadrant::top_offset_of))]
-pub fn top_offset(f: Frame) -> Point
+fn top_offset(f: Frame) -> Point
     ensures { result ≡ top_offset_of f }
 {
     let c = f.half_size.x - f.half_size.y;
@@ -107,29 +109,28 @@ pub fn top_offset(f: Frame) -> Point
 }
 
 #[tactic(auto, unfolding(crate::specs::Quadrant::right_offset_of))]
-pub fn right_offset(f: Frame) -> Point
+fn right_offset(f: Frame) -> Point
     ensures { result ≡ right_offset_of f }
 {
     let c = f.half_size.x - f.half_size.y;
     Point { x: c, y: 0.0 }
 }
 
-/// The two octants of a corner, unsolved. Not one function for both sides: it would take the side by an enum, and its body
-/// would be these two under a match.
-pub fn top_octant(f: Frame) -> Unsolved
+// The frames of a corner's two octants.
+fn top_octant(f: Frame) -> OctantFrame
     ensures { result ≡ top_octant_of f }
 {
-    Unsolved {
+    OctantFrame {
         center: top_offset(f),
         a: f.half_size.x,
         radius: f.radius,
     }
 }
 
-pub fn right_octant(f: Frame) -> Unsolved
+fn right_octant(f: Frame) -> OctantFrame
     ensures { result ≡ right_octant_of f }
 {
-    Unsolved {
+    OctantFrame {
         center: right_offset(f),
         a: f.half_size.y,
         radius: f.radius,
@@ -137,8 +138,8 @@ pub fn right_octant(f: Frame) -> Unsolved
 }
 
 /// The quadrant of a corner with these octants.
-pub fn joined(f: Frame, top: Octant, right: Octant) -> Quadrant
-    ensures { result ≡ joined_of f top right }
+fn quadrant_with(f: Frame, top: Octant, right: Octant) -> Quadrant
+    ensures { result ≡ quadrant_with f top right }
 {
     Quadrant {
         offset: f.offset,
@@ -148,24 +149,25 @@ pub fn joined(f: Frame, top: Octant, right: Octant) -> Quadrant
     }
 }
 
-/// The quadrant of a corner, solved. Octants of the same half-extent differ in their offset alone, so one solve serves both.
-#[tactic(auto, unfolding(crate::specs::Quadrant::solved_of))]
-pub fn solved(f: Frame) -> Quadrant
-    ensures { result ≡ solved_of f }
+// The quadrant of a frame. Octants of the same half-extent differ in their offset alone, so one solve serves both.
+#[tactic(auto, unfolding(crate::specs::Quadrant::quadrant_of))]
+fn solve(f: Frame) -> Quadrant
+    ensures { result ≡ quadrant_of f }
 {
     if is_one_float(f.half_size.x, f.half_size.y) {
         let top = octant::compute_octant(top_offset(f), f.half_size.x, f.radius);
-        return joined(f, top, octant::moved(top, right_offset(f)));
+        return quadrant_with(f, top, octant::with_offset(top, right_offset(f)));
     }
     let [top, right] = octant::compute_octants([top_octant(f), right_octant(f)]);
-    joined(f, top, right)
+    quadrant_with(f, top, right)
 }
 
+/// The quadrant of a corner, solved.
 #[tactic(auto, using(crate::proofs::Framed::framed))]
 pub fn compute_quadrant(center: Point, corner: Point, in_radii: Point, sign: Point) -> Quadrant
     ensures { result ≡ compute_quadrant_of center corner in_radii sign }
 {
-    solved(frame_of(center, corner, in_radii, sign))
+    solve(frame_of(center, corner, in_radii, sign))
 }
 
 /// Where two adjacent corners divide the side they share, in proportion to their radii.
@@ -179,9 +181,10 @@ pub fn split(low: f32, high: f32, ratio_low: f32, ratio_high: f32) -> f32
     (low * ratio_high + high * ratio_low) / (ratio_low + ratio_high)
 }
 
-/// The quadrants of four corners. A square one has nothing to solve, so that there is none to keep step with.
+/// The quadrants of four corners. All eight octants are solved in one batch, unless a corner is square: that one has
+/// nothing to solve.
 pub fn four_quadrants(f: [Frame; 4]) -> [Quadrant; 4]
-    ensures { result ≡ map solved_of f }
+    ensures { result ≡ map quadrant_of f }
 {
     if lanes::all(f, |f| !(f.radius <= octant::CLOSE_ENOUGH)) {
         let [p, q, r, s] = f;
@@ -205,11 +208,11 @@ pub fn four_quadrants(f: [Frame; 4]) -> [Quadrant; 4]
             right_octant(s),
         ]);
         return [
-            joined(p, p_top, p_right),
-            joined(q, q_top, q_right),
-            joined(r, r_top, r_right),
-            joined(s, s_top, s_right),
+            quadrant_with(p, p_top, p_right),
+            quadrant_with(q, q_top, q_right),
+            quadrant_with(r, r_top, r_right),
+            quadrant_with(s, s_top, s_right),
         ];
     }
-    lanes::each(f, solved)
+    lanes::each(f, solve)
 }

@@ -4,7 +4,7 @@ use Rattle.panel_file.specs.declared.Record.{Record}
 use Rattle.panel_file.specs.declared.Record.TheVariants.{Button as ButtonRecord, Touch as TouchRecord}
 use Rattle.panel_file.specs.Panel.{Answer, done, refused, records_of}
 use Rattle.shape.specs.declared.RoundSuperellipse.{RoundSuperellipse}
-use Rattle.shape.specs.Refusal.{Outcome}
+use Rattle.shape.specs.Refusal.{ShapeOutcome}
 use Rattle.shape.specs.Refusal.{made as Made, refused as RefusedBy}
 use Rattle.stream.specs.declared.Need.{Need}
 use Rattle.stream.specs.Stream.{need_of}
@@ -19,7 +19,7 @@ unfoldable pub drawn : RoundSuperellipse → Need
 drawn s = need_of (elements_of (outline_entries s))
 
 -- a button's line: its index, and its outline or the number of the cause that refuses it
-unfoldable pub shape_line : ℕ → Outcome → Line
+unfoldable pub shape_line : ℕ → ShapeOutcome → Line
 shape_line index (Made s) = Shape index (drawn s).verbs (drawn s).points
 shape_line index (RefusedBy cause) = Refused index cause
 

@@ -4,7 +4,7 @@
 
 ghost use Rattle.std.specs.Prelude.{◌≡◌, ◌++◌, length, drop};
 ghost use Rattle.io.specs.Counts.{IsPrefixLen};
-ghost use Rattle.shape.specs.Refusal.{outcome_of};
+ghost use Rattle.shape.specs.Refusal.{shape_outcome_of};
 ghost use Rattle.panel_file.specs.File.{records};
 ghost use Rattle.touch.specs.Touch.{place_of};
 ghost use Rattle.report_lines.specs.Text.{text_of, Over};
@@ -16,9 +16,9 @@ use report_lines::{Line, Lines};
 use shape::{RoundSuperellipse, ShapeError};
 use touch::{MOST_TOUCHES, NOWHERE};
 
-#[tactic(auto, unfolding(crate::specs::Report::shape_line, crate::specs::Report::drawn, shape::specs::Refusal::outcome_of))]
+#[tactic(auto, unfolding(crate::specs::Report::shape_line, crate::specs::Report::drawn, shape::specs::Refusal::shape_outcome_of))]
 fn shape_line(index: usize, made: Result<RoundSuperellipse, ShapeError>) -> Line
-    ensures { result ≡ shape_line index (outcome_of made) }
+    ensures { result ≡ shape_line index (shape_outcome_of made) }
 {
     match made {
         Ok(shape) => {

@@ -1,2 +1,4 @@
--- When each refusal is given, and that nothing else is refused.
-pub mod Refusals
+-- When each refusal is given, and that nothing else is refused; and a shape read back from its floats.
+pub mod Order
+mod Refusals
+pub mod ReadBack

@@ -1,2 +1,4 @@
 pub mod Shape
 pub mod Refusal
+pub mod Laws
+pub mod Layout

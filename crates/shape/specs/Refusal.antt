@@ -1,4 +1,4 @@
--- What making a shape answers: document 01's causes 2, 3 and 4, the lower number first, or the shape. Definitions only.
+-- What making a shape answers: refusal 2, 3 or 4, of several the lowest number, or the shape. Definitions only.
 use Rattle.std.specs.Prelude.{ℕ, List, Bool, not, ◌||◌, Float, Result, Ok, Err, if◌then◌else◌, codes}
 use Rattle.std.specs.Float.{binary32}
 use Rattle.std.specs.Float.Ieee.{of_bits, lt}
@@ -21,7 +21,7 @@ limit = of_bits binary32 0x4680_0000  -- 16384.0
 unfoldable pub any_corner : (Point → Bool) → CornerRadii → Bool
 any_corner has radii = has radii.top_left || has radii.top_right || has radii.bottom_left || has radii.bottom_right
 
--- ---- cause 2: a component of the bounds or the radii is not finite, or over the limit in magnitude
+-- ---- refusal 2: a component of the bounds or the radii is not finite, or over the limit in magnitude
 unfoldable pub beyond_limit : Float → Bool
 beyond_limit x = not (finite x) || lt limit (abs_of x)
 
@@ -34,30 +34,30 @@ bounds_beyond bounds = point_beyond bounds.min || point_beyond bounds.max
 unfoldable pub radii_beyond : CornerRadii → Bool
 radii_beyond radii = any_corner point_beyond radii
 
--- ---- cause 3: a component of the radii is below zero, which -0 is not
+-- ---- refusal 3: a component of the radii is below zero, which -0 is not
 unfoldable pub point_below : Point → Bool
 point_below p = lt p.x zero || lt p.y zero
 
 unfoldable pub radii_below : CornerRadii → Bool
 radii_below radii = any_corner point_below radii
 
--- ---- cause 4: max is below min on an axis
+-- ---- refusal 4: max is below min on an axis
 unfoldable pub inverted : Bounds → Bool
 inverted bounds = lt bounds.max.x bounds.min.x || lt bounds.max.y bounds.min.y
 
 -- ---- the answer
--- a shape, or document 01's number of a cause
-pub data Outcome : Type 0 where
-  made : RoundSuperellipse → Outcome
-  refused : ℕ → Outcome
+-- a shape, or a refusal's number
+pub data ShapeOutcome : Type 0 where
+  made : RoundSuperellipse → ShapeOutcome
+  refused : ℕ → ShapeOutcome
 
--- document 01's number of each cause
+-- the number of each refusal
 unfoldable pub number_of : ShapeError → ℕ
 number_of BeyondLimit = 2
 number_of NegativeRadius = 3
 number_of Inverted = 4
 
--- what is told of a refusal
+-- the text of a refusal
 abbrev pub beyond_text : List ℕ
 beyond_text = codes "a bound or a radius is not finite, or over 16384 in magnitude"
 
@@ -72,13 +72,13 @@ refusal_text BeyondLimit = beyond_text
 refusal_text NegativeRadius = negative_text
 refusal_text Inverted = inverted_text
 
--- the answer as document 01 has it: the shape, or the cause's number
-unfoldable pub outcome_of : Result RoundSuperellipse ShapeError → Outcome
-outcome_of (Ok s) = made s
-outcome_of (Err e) = refused (number_of e)
+-- the shape, or the refusal's number, of what the function returns
+unfoldable pub shape_outcome_of : Result RoundSuperellipse ShapeError → ShapeOutcome
+shape_outcome_of (Ok s) = made s
+shape_outcome_of (Err e) = refused (number_of e)
 
--- the first cause that is met, the lower number first, or the shape
-unfoldable pub new_of : Bounds → CornerRadii → Outcome
+-- the first refusal whose cause is met, the lowest number first, or the shape
+unfoldable pub new_of : Bounds → CornerRadii → ShapeOutcome
 new_of bounds radii =
     if bounds_beyond bounds || radii_beyond radii then refused 2
     else (if radii_below radii then refused 3

@@ -51,12 +51,13 @@ unequal_shape bounds radii =
     record {
       top_right = compute_quadrant_of (point top_split right_split) right_top radii.top_right (point one minus_one);
       bottom_right = compute_quadrant_of (point bottom_split right_split) max radii.bottom_right (point one one);
-      bottom_left = compute_quadrant_of (point bottom_split left_split) left_bottom radii.bottom_left (point minus_one one);
+      bottom_left =
+          compute_quadrant_of (point bottom_split left_split) left_bottom radii.bottom_left (point minus_one one);
       top_left = compute_quadrant_of (point top_split left_split) min radii.top_left (point minus_one minus_one);
       all_corners_same = false;
     }
 
--- the quadrants as the unequal path makes them
+-- the quadrants, in the order in which the unequal path makes them
 abbrev pub corners_in_order : RoundSuperellipse → List Quadrant
 corners_in_order s = s.top_right ∷ s.bottom_right ∷ s.bottom_left ∷ s.top_left ∷ []
 

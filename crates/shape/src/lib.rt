@@ -6,25 +6,29 @@
 ghost use Rattle.std.specs.Prelude.{◌≡◌, Bool, map, Some};
 ghost use Rattle.geometry.specs.declared.Point.{Point};
 ghost use Rattle.octant.specs.Octant.{point};
-ghost use Rattle.quadrant.specs.Quadrant.{frame_of, solved_of};
+ghost use Rattle.quadrant.specs.Quadrant.{frame_of, quadrant_of};
 ghost use Rattle.shape.specs.Shape.{corners_in_order, all_same, one_quadrant, equal_shape, unequal_shape, shape_of};
-ghost use Rattle.shape.specs.Refusal.{any_corner, beyond_limit, point_beyond, radii_beyond, bounds_beyond, point_below, radii_below, inverted, number_of, refusal_text, outcome_of, new_of};
+ghost use Rattle.shape.specs.Laws.{MadeWithinLimits, GreatestIsWithinLimits, TwoIfBeyond, ThreeIfNegative, FourIfInverted, LimitPasses, NextIsBeyond, NotFiniteIsBeyond, MinusZeroIsNotBelow};
+ghost use Rattle.shape.specs.Refusal.{any_corner, beyond_limit, point_beyond, radii_beyond, bounds_beyond, point_below, radii_below, inverted, number_of, refusal_text, shape_outcome_of, new_of};
 
 use geometry::Point;
 use quadrant::{Frame, Quadrant};
 use std::error::Error;
 use std::fmt;
 
+pub mod layout;
+
 // The largest magnitude that a component of the bounds or the radii may have.
 const LIMIT: f32 = 16384.0;
 
+/// The rectangle that a shape is made in, by two opposite corners.
 #[derive(Clone, Copy)]
 pub struct Bounds {
     pub min: Point,
     pub max: Point,
 }
 
-/// Four points named by corner, as document 01 has them, and no array.
+/// The radii along x and along y of each corner. Fields named by corner, and no array, so that none stands for another.
 #[derive(Clone, Copy)]
 pub struct CornerRadii {
     pub top_left: Point,
@@ -33,8 +37,8 @@ pub struct CornerRadii {
     pub bottom_right: Point,
 }
 
-/// Where all corners are the same, one quadrant describes all four, and containment mirrors the point. A yes or no beside the four,
-/// and no enum, since document 01 has the record so.
+/// The shape: a quadrant for each corner. Where all corners are the same, one quadrant describes all four, and
+/// containment mirrors the point.
 #[derive(Clone, Copy)]
 pub struct RoundSuperellipse {
     pub top_right: Quadrant,
@@ -53,7 +57,7 @@ pub enum ShapeError {
 }
 
 impl ShapeError {
-    /// Document 01's number of the cause: the C interface and the programs write it.
+    /// The refusal's number, which the C interface and the programs write.
     #[tactic(auto, unfolding(crate::specs::Refusal::number_of))]
     pub fn number(self) -> u8
         ensures { result ≡ number_of self }
@@ -128,7 +132,7 @@ fn frame_at(x: f32, y: f32, corner: Point, radii: Point, u: f32, v: f32) -> Fram
 // The four corners before their octants are solved, about the points where they divide their sides.
 #[tactic(auto, using(quadrant::proofs::Framed::framed), unfolding(crate::specs::Shape::unequal_shape))]
 fn frames(bounds: Bounds, radii: CornerRadii) -> [Frame; 4]
-    ensures { map solved_of result ≡ corners_in_order (unequal_shape bounds radii) }
+    ensures { map quadrant_of result ≡ corners_in_order (unequal_shape bounds radii) }
 {
     let min = bounds.min;
     let max = bounds.max;
@@ -150,7 +154,9 @@ fn frames(bounds: Bounds, radii: CornerRadii) -> [Frame; 4]
 fn unequal_shape(bounds: Bounds, radii: CornerRadii) -> RoundSuperellipse
     ensures { result ≡ unequal_shape bounds radii }
 {
-    let [top_right, bottom_right, bottom_left, top_left] = quadrant::four_quadrants(frames(bounds, radii));
+    let [top_right, bottom_right, bottom_left, top_left] = quadrant::four_quadrants(frames(
+        bounds, radii,
+    ));
     RoundSuperellipse {
         top_right,
         bottom_right,
@@ -171,11 +177,12 @@ fn shape_of(bounds: Bounds, radii: CornerRadii) -> RoundSuperellipse
     unequal_shape(bounds, radii)
 }
 
-// Whether the test says so of the radii of one of the corners. By `|`, not `||`: four tests and no branch.
+// Whether the radii of one of the corners pass the test. By `|`, not `||`: four tests and no branch.
 #[tactic(auto, unfolding(crate::specs::Refusal::any_corner))]
 fn any_corner<F: Fn(Point) -> bool>(radii: CornerRadii, test: F) -> bool
     requires { (p : Point) → F.pre test p }
-    ensures { (has : Point → Bool) → ((p : Point) (b : Bool) → F.post test p b → b ≡ has p) → result ≡ any_corner has radii }
+    ensures { (has : Point → Bool) → ((p : Point) (b : Bool) → F.post test p b → b ≡ has p)
+        → result ≡ any_corner has radii }
 {
     test(radii.top_left)
         | test(radii.top_right)
@@ -237,10 +244,10 @@ fn is_inverted(bounds: Bounds) -> bool
 }
 
 impl RoundSuperellipse {
-    /// The shape, or the first cause that the bounds and the radii give.
-    #[tactic(auto, unfolding(crate::specs::Refusal::new_of, crate::specs::Refusal::number_of, crate::specs::Refusal::outcome_of))]
+    /// The shape, or the first refusal whose cause the bounds and the radii give.
+    #[tactic(auto, unfolding(crate::specs::Refusal::new_of, crate::specs::Refusal::number_of, crate::specs::Refusal::shape_outcome_of))]
     pub fn new(bounds: Bounds, radii: CornerRadii) -> Result<RoundSuperellipse, ShapeError>
-        ensures { outcome_of result ≡ new_of bounds radii }
+        ensures { shape_outcome_of result ≡ new_of bounds radii }
     {
         if bounds_beyond(bounds) || radii_beyond(radii) {
             return Err(ShapeError::BeyondLimit);
@@ -254,3 +261,18 @@ impl RoundSuperellipse {
         Ok(shape_of(bounds, radii))
     }
 }
+
+/// A shape is made within the limits, and nowhere else: the first refusal whose cause is met comes instead.
+pub fn refusals_are_exact()
+    ensures made { MadeWithinLimits }
+    ensures greatest { GreatestIsWithinLimits }
+    ensures two { TwoIfBeyond }
+    ensures three { ThreeIfNegative }
+    ensures four { FourIfInverted }
+
+    // At the borders.
+    ensures limit { LimitPasses }
+    ensures next { NextIsBeyond }
+    ensures not_finite { NotFiniteIsBeyond }
+    ensures minus_zero { MinusZeroIsNotBelow }
+{}

@@ -13,7 +13,7 @@ use Rattle.geometry.specs.declared.Point.{Point}
 use Rattle.panel_file.specs.declared.Record.{Record}
 use Rattle.panel_file.specs.declared.Record.TheVariants.{Button as ButtonRecord, Touch as TouchRecord}
 use Rattle.panel_file.specs.Panel.{buttons_of}
-use Rattle.shape.specs.Refusal.{Outcome}
+use Rattle.shape.specs.Refusal.{ShapeOutcome}
 use Rattle.touch.specs.Touch.{Place, button, nowhere, nowhere_code, code_of, place_of, settle, seek, shape_of, shapes_of, takes}
 use Rattle.touch.specs.Search.{points_in, marked, passes, next_index, looked_at}
 use Rattle.touch.proofs.Gathering.{points-length, point_at}
@@ -119,17 +119,17 @@ settle-below b (at-button h) l = at-button h
 settle-below true at_none l = at-button l
 settle-below false at_none l = at_none
 
-pub seek-below : (p : Point) {n : ℕ} (k : ℕ) (ss : List Outcome) {pl : Place} → Below n pl → k + length ss ≤ n → Below n (seek p pl k ss)
+pub seek-below : (p : Point) {n : ℕ} (k : ℕ) (ss : List ShapeOutcome) {pl : Place} → Below n pl → k + length ss ≤ n → Below n (seek p pl k ss)
 unfolding seek
 seek-below p k [] h l = h
 seek-below p k (s ∷ ss) h l = seek-below p (suc k) ss (settle-below (takes s p) h (omega arith)) (omega arith)
 
-passes_none : (k : ℕ) (ss : List Outcome) → passes [] k ss [] ≡ []
+passes_none : (k : ℕ) (ss : List ShapeOutcome) → passes [] k ss [] ≡ []
 unfolding passes marked
 passes_none k [] = refl
 passes_none k (s ∷ ss) = passes_none (suc k) ss
 
-passes_first : (p : Point) (ps : List Point) (k : ℕ) (ss : List Outcome) (pl : Place) (found : List ℕ) → Below nowhere_code pl → k + length ss ≤ nowhere_code
+passes_first : (p : Point) (ps : List Point) (k : ℕ) (ss : List ShapeOutcome) (pl : Place) (found : List ℕ) → Below nowhere_code pl → k + length ss ≤ nowhere_code
     → passes (p ∷ ps) k ss (code_of pl ∷ found) ≡ code_of (seek p pl k ss) ∷ passes ps k ss found
 unfolding passes marked seek
 passes_first p ps k [] pl found h l = refl
@@ -137,7 +137,7 @@ passes_first p ps k (s ∷ ss) pl found h l =
     rw (place_code h) (passes_first p ps (suc k) ss (settle pl k (takes s p)) (marked (takes s) k ps found) (settle-below (takes s p) h (omega arith)) (omega arith))
 
 -- the places of all touches, from none on
-pub passes-places : (ps : List Point) (ss : List Outcome) → length ss ≤ nowhere_code
+pub passes-places : (ps : List Point) (ss : List ShapeOutcome) → length ss ≤ nowhere_code
     → passes ps 0 ss (replicate (length ps) nowhere_code) ≡ map (λ p. code_of (seek p nowhere 0 ss)) ps
 unfolding code_of
 passes-places [] ss l = passes_none 0 ss

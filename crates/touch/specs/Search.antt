@@ -3,7 +3,7 @@ use Rattle.std.specs.Prelude.{ℕ, suc, ◌+◌, ◌*◌, Bool, List, [], ◌∷
 use Rattle.geometry.specs.declared.Point.{Point}
 use Rattle.panel_file.specs.declared.Record.{Record}
 use Rattle.panel_file.specs.declared.Record.TheVariants.{Button as ButtonRecord, Touch as TouchRecord}
-use Rattle.shape.specs.Refusal.{Outcome}
+use Rattle.shape.specs.Refusal.{ShapeOutcome}
 use Rattle.touch.specs.Touch.{code_of, place_of, settle, shape_of, takes}
 
 -- points as floats, two for each, and floats as points
@@ -23,7 +23,7 @@ marked hit k (p ∷ ps) [] = []
 marked hit k (p ∷ ps) (n ∷ found) = code_of (settle (place_of n) k (hit p)) ∷ marked hit k ps found
 
 -- and with all shapes from index k on
-unfoldable pub passes : List Point → ℕ → List Outcome → List ℕ → List ℕ
+unfoldable pub passes : List Point → ℕ → List ShapeOutcome → List ℕ → List ℕ
 passes ps k [] found = found
 passes ps k (s ∷ ss) found = passes ps (suc k) ss (marked (takes s) k ps found)
 

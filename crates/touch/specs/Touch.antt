@@ -5,23 +5,23 @@ use Rattle.panel_file.specs.declared.Broken.{Broken}
 use Rattle.panel_file.specs.declared.Button.{Button}
 use Rattle.panel_file.specs.declared.Record.{Record}
 use Rattle.panel_file.specs.Panel.{Answer, done, refused, broken, on_done, records_of, buttons_of, touches_of}
-use Rattle.shape.specs.Refusal.{Outcome, new_of}
+use Rattle.shape.specs.Refusal.{ShapeOutcome, new_of}
 use Rattle.shape.specs.Refusal.{made as Made, refused as Refused}
 use Rattle.containment.specs.Contains.{contains_of}
 
 -- a button's shape, or the number of the cause that refuses it
-unfoldable pub shape_of : Button → Outcome
+unfoldable pub shape_of : Button → ShapeOutcome
 shape_of b =
     new_of
     (record { min = b.min; max = b.max })
     (record { top_left = b.top_left; top_right = b.top_right; bottom_left = b.bottom_left; bottom_right = b.bottom_right })
 
 -- the shapes of a file's buttons, made or refused, in file order
-unfoldable pub shapes_of : List Record → List Outcome
+unfoldable pub shapes_of : List Record → List ShapeOutcome
 shapes_of rs = map shape_of (buttons_of rs)
 
 -- a shape takes a touch that it contains; a refused one takes none
-unfoldable pub takes : Outcome → Point → Bool
+unfoldable pub takes : ShapeOutcome → Point → Bool
 takes (Made s) p = contains_of s p
 takes (Refused n) p = false
 
@@ -37,7 +37,7 @@ settle nowhere k true = button k
 settle nowhere k false = nowhere
 
 -- where a touch goes among the shapes from index k on, after what was found before them
-unfoldable pub seek : Point → Place → ℕ → List Outcome → Place
+unfoldable pub seek : Point → Place → ℕ → List ShapeOutcome → Place
 seek p found k [] = found
 seek p found k (s ∷ ss) = seek p (settle found k (takes s p)) (suc k) ss
 

@@ -4,15 +4,15 @@
 #![tactic(auto)]
 
 ghost use Rattle.std.specs.Prelude.{◌≡◌, true, false, ◌+◌, ◌*◌, ◌<◌, ◌≤◌, ◌++◌, length, take, drop};
-ghost use Rattle.shape.specs.Refusal.{outcome_of};
+ghost use Rattle.shape.specs.Refusal.{shape_outcome_of};
 ghost use Rattle.containment.specs.Contains.{contains_of};
-ghost use Rattle.containment.specs.Arcs.{misses_of};
+ghost use Rattle.containment.specs.QuickReject.{is_surely_outside};
 ghost use Rattle.panel_file.specs.Panel.{touches_of};
 ghost use Rattle.panel_file.specs.File.{records};
 ghost use Rattle.touch.specs.Touch.{code_of, place_of, settle, shape_of, shapes_of, takes, place_among, placed_of, touched_of, touch_of, left, count_of, places_of, touch_all_of};
 ghost use Rattle.touch.specs.Search.{points_in, marked, passes, next_index, looked_at, floats_of, next_count, kept_in};
 
-use containment::{Arcs, contains};
+use containment::{QuickReject, contains};
 use geometry::Point;
 use panel_file::{Broken, Button, PanelFile, Record};
 use shape::{Bounds, CornerRadii, RoundSuperellipse, ShapeError};
@@ -26,7 +26,7 @@ pub const NOWHERE: u32 = 0xffff_ffff;
 /// A button's shape, or why it has none.
 #[tactic(auto, unfolding(crate::specs::Touch::shape_of))]
 pub fn shape_of(button: Button) -> Result<RoundSuperellipse, ShapeError>
-    ensures { outcome_of result ≡ shape_of button }
+    ensures { shape_outcome_of result ≡ shape_of button }
 {
     let Button {
         min,
@@ -61,14 +61,14 @@ fn nearest(same: bool, center: Point, p: Point) -> usize
 // Where a touch goes, with one shape more looked at: the first that contains it keeps it. Nearly every touch is told by
 // the arcs of one corner to lie outside.
 #[tactic(auto, unfolding(crate::specs::Touch::code_of, crate::specs::Touch::place_of, crate::specs::Touch::settle))]
-fn settled(found: u32, index: u32, shape: RoundSuperellipse, arcs: Arcs, p: Point) -> u32
-    requires { misses_of arcs shape.all_corners_same p ≡ true → contains_of shape p ≡ false }
+fn settled(found: u32, index: u32, shape: RoundSuperellipse, arcs: QuickReject, p: Point) -> u32
+    requires { is_surely_outside arcs shape.all_corners_same p ≡ true → contains_of shape p ≡ false }
     ensures { result ≡ code_of (settle (place_of found) index (contains_of shape p)) }
 {
     if found != NOWHERE {
         return found;
     }
-    if containment::misses(arcs, shape.all_corners_same, p) {
+    if containment::is_surely_outside(arcs, shape.all_corners_same, p) {
         return NOWHERE;
     }
     if contains(shape, p) {
@@ -83,7 +83,7 @@ fn mark(shape: RoundSuperellipse, index: u32, points: &[f32], results: &mut [u32
     requires { length points.now ≡ 2 * length results.old }
     ensures { results.new ≡ marked (contains_of shape) index (points_in points.now) results.old }
 {
-    let arcs = containment::all_arcs(shape);
+    let arcs = containment::quick_rejects(shape);
     let same = shape.all_corners_same;
     let first = arcs[0];
     for (i, found) in results.iter_mut().enumerate() {
@@ -106,7 +106,7 @@ fn consider(
 ) -> u32
     requires { (index < 65536) × (length points.now ≡ 2 * length results.old) }
     ensures value { result ≡ index + 1 }
-    ensures results_after { results.new ≡ marked (takes (outcome_of made)) index (points_in points.now) results.old }
+    ensures results_after { results.new ≡ marked (takes (shape_outcome_of made)) index (points_in points.now) results.old }
 {
     if let Ok(shape) = made {
         mark(shape, index, points, results);

@@ -1,6 +1,6 @@
 use lib.ListN.{length}
 use Rattle.octant.specs.Octant.{point}
-use Rattle.ffi_shape.proofs.Corners.{all_hold, first_holds, answered}
+use Rattle.ffi_shape.proofs.Answers.{answered}
 use borrow.Author.Tests.{ne_eqb}
 use Rattle.ffi_shape.specs.Making.{holds_of}
 use Rattle.ffi_shape.proofs.shackletongue_contains.Goals as goal
@@ -9,14 +9,8 @@ pub returns-in_default : goal.returns-in_default
 unfolding holds_of
 returns-in_default c = rw (ne_eqb (length c.args.shape.now) 89 c.in_default.ensures.cases)
 
-pub returns-then-shape : goal.returns-then-shape
-returns-then-shape c =
-    let a = c.args in
-    let e = c.in-Some.ensures.cases in
-    answered a.shape.now (point a.x a.y) _ _ _ e.long c.from.ensures (rw e.same at c.corners_hold.ensures) (all_hold a.shape.now _ (rw e.same at c.if-shape.true))
-
 pub returns : goal.returns
 returns c =
     let a = c.args in
     let e = c.in-Some.ensures.cases in
-    answered a.shape.now (point a.x a.y) _ _ _ e.long c.from-2.ensures (rw e.same at c.same_holds.ensures) (first_holds a.shape.now _ (rw e.same at c.if-shape.false))
+    answered a.shape.now (point a.x a.y) _ _ e.long c.from.ensures (rw e.same at c.contains.ensures)

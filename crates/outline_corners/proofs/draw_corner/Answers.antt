@@ -1,4 +1,4 @@
-use Rattle.outline_corners.proofs.Solved.{round-solved}
+use Rattle.outline_corners.proofs.RoundCalls.{round_calls-is}
 use Rattle.outline_corners.specs.Corners.{corner_calls}
 use Rattle.outline_corners.proofs.draw_corner.Goals as goal
 
@@ -8,4 +8,4 @@ returns-then-is_square c = rw (← c.mul-scale.ensures, ← c.is_square.ensures,
 
 pub returns : goal.returns
 unfolding corner_calls
-returns c = rw (← c.mul-scale.ensures, ← c.is_square.ensures, c.if-is_square.false, round-solved, ← c.solve-solved.ensures.0, ← c.solve-solved.ensures.1, ← c.round_corner.ensures)
+returns c = rw (← c.mul-scale.ensures, ← c.is_square.ensures, c.if-is_square.false, round_calls-is, ← c.curves_of.ensures, ← c.curves_of-2.ensures, ← c.round_corner.ensures)

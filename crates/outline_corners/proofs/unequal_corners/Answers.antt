@@ -9,4 +9,4 @@ unfolding unequal_corners corner_calls
 returns c =
     let shape = c.args.shape in
     let n = none_of_four (square_corner shape.top_right) (square_corner shape.bottom_right) (square_corner shape.bottom_left) (square_corner shape.top_left) (sym c.any_square.ensures ∙ c.if-any_square.false) in
-    rw (n.0, n.1, n.2, n.3, ← c.draw_round.ensures.0, ← c.draw_round.ensures.1, ← c.draw_round.ensures.2, ← c.draw_round.ensures.3)
+    rw (n.0, n.1, n.2, n.3, ← c.draw_round.ensures.first, ← c.draw_round.ensures.second, ← c.draw_round.ensures.third, ← c.draw_round.ensures.fourth)

@@ -18,7 +18,7 @@ loop-i-init c = (refl, refl)
 pub settled-requires : goal.settled-requires
 settled-requires c =
     let near = c.nearest.ensures in
-    shape-beyond c.args.shape _ _ _ _ c.all_arcs-arcs.ensures near.0 near.1
+    shape-beyond c.args.shape _ _ _ _ c.quick_rejects-arcs.ensures near.0 near.1
 
 pub loop-i-preserved : goal.loop-i-preserved
 loop-i-preserved c =

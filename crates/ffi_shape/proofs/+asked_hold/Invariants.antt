@@ -1,5 +1,0 @@
-use Rattle.ffi_shape.proofs.+asked_hold.Given as goal
-
--- the lowest bit is taken away
-abbrev pub decreases-asked_hold : goal.decreases-asked_hold
-decreases-asked_hold l = l.asked
