@@ -1,19 +1,14 @@
 -- What holds of every list of building calls from an empty builder, with the same two buffers throughout. Definitions only.
-use Rattle.std.specs.Prelude.{◌≡◌, List, [], ◌∷◌, ◌++◌, Bool, true, false, ℕ, ◌+◌, ◌*◌, length, Float, if◌then◌else◌, ◌==◌}
+use Rattle.std.specs.Prelude.{◌≡◌, List, [], ◌∷◌, ◌++◌, Bool, false, ℕ, ◌+◌, ◌*◌, length, Float, if◌then◌else◌, ◌==◌}
 use Rattle.geometry.specs.declared.Point.{Point}
 use Rattle.stream.specs.declared.Builder.{Builder}
 use Rattle.stream.specs.declared.Element.{Element}
-use Rattle.stream.specs.declared.Element.TheVariants.{Move, Line, Quad, Cubic, Close}
-use Rattle.stream.specs.Stream.{State, state, is_empty, verb_of}
+use Rattle.stream.specs.Stream.{State, state, verb_of}
 use Rattle.reader.specs.Reading.{Reads, cursor, read_all, ok}
 use Rattle.conic_writer.specs.Entries.{Entry, elements_of}
-use Rattle.calls.specs.Calls.{Outcome, outcome, attempt}
-use Rattle.book.specs.Simulation.{run, answers}
+use Rattle.calls.specs.Calls.{Outcome}
+use Rattle.book.specs.Machine.{run, answers}
 use Rattle.book.specs.Book.{Book, empty_book, accepts, entries_added, builder_machine, book_machine}
-
--- a builder with no element: both counts are 0
-abbrev pub IsEmpty : Builder → Type 0
-IsEmpty b = (b.verbs ≡ 0) × (b.points ≡ 0)
 
 -- how many elements of a list have the verb v
 unfoldable pub count_verb : ℕ → List Element → ℕ
@@ -24,35 +19,13 @@ count_verb v (k ∷ ks) = (if verb_of k == v then 1 else 0) + count_verb v ks
 abbrev pub count_points : List Element → ℕ
 count_points ks = count_verb 0 ks + count_verb 1 ks + 2 * count_verb 2 ks + 3 * count_verb 3 ks
 
--- ---- calls that are given by their entries
-
--- nothing, or a move and what follows it
-abbrev pub Opens : List Element → Type 0
-Opens [] = Unit {0}
-Opens (Move p ∷ ks) = Unit {0}
-Opens (Line p ∷ ks) = ⊥
-Opens (Quad p q ∷ ks) = ⊥
-Opens (Cubic p q r ∷ ks) = ⊥
-Opens (Close ∷ ks) = ⊥
-
--- an answer with its joint word, or without
-abbrev pub said : Bool → Outcome → Outcome
-said true o = o
-said false o = outcome o.number 0 o.state
-
--- a step attempts the call's entries; on an empty path these do not depend on the pen, and begin with a move if there are any
-pub record GivenByEntries {C : Type 0} (step : State → C → Outcome) (entries : Bool → Point → C → List Entry) (answers_word : C → Bool) : Type 0 where
-  pub given : (s : State) (c : C) → step s c ≡ said (answers_word c) (attempt s (entries (is_empty s.builder) s.builder.pen c))
-  pub no_pen : (c : C) (p q : Point) → entries true p c ≡ entries true q c
-  pub opens : (c : C) (p : Point) → Opens (elements_of (entries true p c))
-
 -- ---- what holds of every list
 
 -- the record and the buffers after a list
 abbrev pub state_after : {C : Type 0} → (State → C → Outcome) → Builder → List ℕ → List Float → List C → State
 state_after step b vs fs cs = run (builder_machine step) (state b vs fs) cs
 
--- the book of a list, for buffers of vn bytes and fn floats
+-- the book of a list, for buffers of so many bytes and floats
 abbrev pub book_of : {C : Type 0} → (Bool → Point → C → List Entry) → (C → Bool) → ℕ → ℕ → List C → Book
 book_of entries answers_word verb_room float_room cs = run (book_machine entries answers_word verb_room float_room) empty_book cs
 
@@ -64,8 +37,9 @@ module _ {C : Type 0} (step : State → C → Outcome) (entries : Bool → Point
 
   pub record EveryList (b : Builder) (vs : List ℕ) (fs : List Float) (cs : List C) : Type 0 where
     -- the answers are those of the book, call by call
-    pub answered : answers (builder_machine step) (state b vs fs) cs ≡ answers (book_machine entries answers_word (length vs) (length fs)) empty_book cs
-    pub each : (pre : List C) (c : C) (post : List C) → cs ≡ pre ++ c ∷ post → EachCall (length vs) (length fs) (state_after step b vs fs pre) (book_of entries answers_word (length vs) (length fs) pre) c
+    pub replies : answers (builder_machine step) (state b vs fs) cs ≡ answers (book_machine entries answers_word (length vs) (length fs)) empty_book cs
+    pub each : (pre : List C) (c : C) (post : List C) → cs ≡ pre ++ c ∷ post
+        → EachCall (length vs) (length fs) (state_after step b vs fs pre) (book_of entries answers_word (length vs) (length fs) pre) c
     -- reading from (0, 0) gives the book's elements one by one and then the end, and all of them at once
     pub stream : Reads (state_after step b vs fs cs) (cursor 0 0) (elements_of (book_of entries answers_word (length vs) (length fs) cs).entries)
     pub whole : read_all (state_after step b vs fs cs) ≡ ok (elements_of (book_of entries answers_word (length vs) (length fs) cs).entries)

@@ -24,7 +24,7 @@ use Rattle.book.specs.Book.{empty_book, fits_in, accepts, book_with}
 use Rattle.book.proofs.Kept.{Holds, given_simulates}
 use Rattle.book.proofs.Every.{holds_none, each-call}
 use Rattle.building.proofs.Seven.{seven}
-use Rattle.outline_need.proofs.Turns.{outline_told}
+use Rattle.outline_need.proofs.Turns.{outline_parts}
 use Rattle.consistency.specs.Inspection.{all_finite, finite_outline}
 
 -- an outline drawn on a record that is fresh
@@ -40,7 +40,7 @@ module _ (vs : List ℕ) (fs : List Float) (shape : RoundSuperellipse) (v : leng
   has_room : accepts (length vs) (length fs) empty_book (outline_entries shape) ≡ true
   unfolding fits_in
   has_room =
-      let z = (outline_told shape).sizes in
+      let z = (outline_parts shape).sizes in
       let ks = elements_of (outline_entries shape) in
       let a = le-leb (length ks) (length vs) (omega (arith, z.most)) in
       let b = le-leb (sizes_of ks) (length fs / 2) (omega (arith, z.most_points)) in
@@ -72,5 +72,5 @@ module _ (vs : List ℕ) (fs : List Float) (shape : RoundSuperellipse) (v : leng
   drawn r b vs' fs' d e =
       let t : state b vs' fs' ≡ (step s (AddTo shape)).state = ap (λ (o : Outcome). o.state) (ap (λ (x : Result Builder BuildError). outcome_of x vs' fs') (sym d) ∙ e) in
       let h = (subst (λ (x : State). Holds (length vs) (length fs) x (book_with empty_book (outline_entries shape))) (sym t) drawn_holds).holding in
-      let z = (outline_told shape).sizes in
+      let z = (outline_parts shape).sizes in
       record { few = omega (arith, h.size, z.most_points); finite = ap all_finite (ap (λ (n : ℕ). take (2 * n) fs') h.size ∙ h.floats) }
