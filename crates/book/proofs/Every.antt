@@ -63,8 +63,5 @@ module _ {C : Type 0} {step : State → C → Outcome} {entries : Bool → Point
       record {
         replies = run-agrees (given_simulates given verb_room float_room) (state b vs fs) empty_book cs (holds_none b vs fs v p);
         each = λ pre c post q. each-call verb_room float_room (state_after step b vs fs pre) (book_of entries answers_word verb_room float_room pre) c (holds_after b vs fs pre v p);
-        stream = reads_back f.holding;
-        whole = reads_all (reads_back f.holding);
-        verbs = f.holding.many;
-        points = f.holding.size ∙ sizes_count _;
+        left = record { stream = reads_back f.holding; whole = reads_all (reads_back f.holding); verbs = f.holding.many; points = f.holding.size ∙ sizes_count _ };
       }

@@ -1,6 +1,6 @@
--- The book of a list of calls: what the list is to leave, from the calls and the lengths of the two buffers alone, and nothing of a record or of an answer.
--- A kind of calls is given by the entries that a call adds to a path that is empty or not, and whose pen is known, and by which calls answer a joint
--- word. Definitions only.
+-- The book of a list of calls: what the list is to leave, from the calls and the lengths of the two buffers alone,
+-- and nothing of a record or of an answer. A kind of calls is given by the entries that a call adds to a path that is
+-- empty or not, and whose pen is known, and by which calls answer a joint word. Definitions only.
 use Rattle.std.specs.Prelude.{List, [], ◌∷◌, ◌++◌, Bool, true, false, ◌&&◌, ℕ, ◌/◌, length, nat_le, if◌then◌else◌}
 use Rattle.geometry.specs.declared.Point.{Point}
 use Rattle.stream.specs.declared.Element.{Element}

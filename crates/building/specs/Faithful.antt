@@ -1,5 +1,6 @@
--- Every list of the seven building calls from an empty builder, with the same two buffers throughout: the stream reads back as exactly the book of
--- the list, with the counts, spans, joint words and refusals of the book. Definitions only.
+-- Every list of the seven building calls from an empty builder, with the same two buffers throughout: the stream
+-- reads back as exactly the book of the list, with the counts, spans, joint words and refusals of the book.
+-- Definitions only.
 use Rattle.std.specs.Prelude.{◌≡◌, List, ◌∷◌, ◌++◌, true, ℕ, ◌≤◌, length, Float}
 use Rattle.geometry.specs.declared.Point.{Point}
 use Rattle.conic.specs.declared.Conic.{Conic}
@@ -20,8 +21,9 @@ use Rattle.outline_need.specs.Parts.{OutlineEntries}
 abbrev pub conic_in : Book → Point → Point → Float → Conic
 conic_in k ctrl to w = conic_from (is_nil k.entries) k.pen ctrl to w
 
--- an accepted conic on a builder s with the book k: past any opening move it adds one line or 1 to 64 quads, whose spans are the halving's own, tile 0
--- to 64 and are marked by the answer's joint word (`LineOrQuads`); it leaves the pen at its target
+-- an accepted conic on a builder s with the book k: past any opening move it adds one line or 1 to 64 quads, whose
+-- spans are the halving's own, tile 0 to 64 and are marked by the answer's joint word (`LineOrQuads`); it leaves the
+-- pen at its target
 pub record ConicAdded (s : State) (k : Book) (ctrl to : Point) (w : Float) : Type 0 where
   pub entries : let c = conic_in k ctrl to w in
       entries_added entries_of k (ConicTo ctrl to w) ≡ opening (is_nil k.entries) ++ lowered_of (lower_of c)
@@ -36,20 +38,23 @@ pub record Faithful (b : Builder) (vs : List ℕ) (fs : List Float) (cs : List B
   -- answers, refusals, stream and counts
   pub every : EveryList step entries_of answers_word b vs fs cs
   -- each accepted conic
-  pub conics : (pre : List BuildingCall) (ctrl to : Point) (w : Float) (post : List BuildingCall) → cs ≡ pre ++ ConicTo ctrl to w ∷ post
-      → let k = book_in (length vs) (length fs) pre in
+  pub conics : (pre : List BuildingCall) (ctrl to : Point) (w : Float) (post : List BuildingCall)
+      → cs ≡ pre ++ ConicTo ctrl to w ∷ post → let k = book_in (length vs) (length fs) pre in
       accepts (length vs) (length fs) k (entries_added entries_of k (ConicTo ctrl to w)) ≡ true
       → ConicAdded (state_after step b vs fs pre) k ctrl to w
   -- each outline, accepted or not: what it adds is a move, four corners, a line to the move's point and a close
-  pub outlines : (pre : List BuildingCall) (shape : RoundSuperellipse) (post : List BuildingCall) → cs ≡ pre ++ AddTo shape ∷ post
-      → let k = book_in (length vs) (length fs) pre in OutlineEntries shape (entries_added entries_of k (AddTo shape))
+  pub outlines : (pre : List BuildingCall) (shape : RoundSuperellipse) (post : List BuildingCall)
+      → cs ≡ pre ++ AddTo shape ∷ post →
+      let k = book_in (length vs) (length fs) pre in
+      OutlineEntries shape (entries_added entries_of k (AddTo shape))
 
 -- ---- what the public functions promise
 
 -- of every record with both counts 0 and any two buffers
 abbrev pub EveryListIsFaithful : Type 0
 EveryListIsFaithful =
-    (b : Builder) (vs : List ℕ) (fs : List Float) (cs : List BuildingCall) → b.verbs ≡ 0 → b.points ≡ 0 → Faithful b vs fs cs
+    (b : Builder) (vs : List ℕ) (fs : List Float) (cs : List BuildingCall)
+    → b.verbs ≡ 0 → b.points ≡ 0 → Faithful b vs fs cs
 
 -- of the fresh record
 abbrev pub EveryFreshListIsFaithful : Type 0

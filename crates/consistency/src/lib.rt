@@ -1,5 +1,5 @@
-//! Whether the outline and the touch area of a shape are consistent: no center lies outside the bounds, so that no corner
-//! looks the wrong way, and every point of the outline is finite.
+//! Whether the outline and the touch area of a shape are consistent: no center lies outside the bounds, so that no
+//! corner looks the wrong way, and every point of the outline is finite.
 
 #![tactic(auto)]
 
@@ -33,8 +33,8 @@ fn are_finite(floats: &[f32]) -> bool
     floats.iter().all(|x| ieee::is_finite(*x))
 }
 
-// The outline is drawn into buffers that hold the largest one, so it is never refused. Arrays and no Vec: the library has no
-// heap.
+// The outline is drawn into buffers that hold the largest one, so it is never refused. Arrays and no Vec: the library
+// has no heap.
 fn has_finite_outline(shape: RoundSuperellipse) -> bool
     ensures { result ≡ finite_outline shape }
 {

@@ -1,4 +1,5 @@
--- The seven building calls: the six of path.rs, and the outline of a shape. Every public call's contract is an equation with `step`. Definitions only.
+-- The seven building calls: the six of path.rs, and the outline of a shape. Every public call's contract is an
+-- equation with `step`. Definitions only.
 use Rattle.std.specs.Prelude.{List, Bool, true, false}
 use Rattle.geometry.specs.declared.Point.{Point}
 use Rattle.stream.specs.Stream.{State}

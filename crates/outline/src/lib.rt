@@ -1,5 +1,5 @@
-//! The outline of a shape as a building call: its need is counted before anything is written, and it is written whole or
-//! not at all.
+//! The outline of a shape as a building call: its need is counted before anything is written, and it is written whole
+//! or not at all.
 
 #![tactic(auto)]
 

@@ -1,5 +1,6 @@
--- The Rust's outline of a shape, the end of superellipse.rs with what it stands on: in its words and in its order, on the Rust's PathBuilder. Of this
--- repository it takes the records of a point, an octant, a quadrant and a shape, and the functions of f32. Definitions only.
+-- The Rust's outline of a shape, the end of superellipse.rs with what it stands on: in its words and in its order, on
+-- the Rust's PathBuilder. Of this repository it takes the records of a point, an octant, a quadrant and a shape, and
+-- the functions of f32. Definitions only.
 use Rattle.std.specs.Prelude.{List, [], ◌∷◌, Bool, true, false, ◌||◌, ℕ, ◌+◌, min, pos, get_or, Float, if◌then◌else◌}
 use Rattle.std.specs.Float.{binary32, nan}
 use Rattle.std.specs.Float.Ieee.{of_bits, of_int, to_unsigned, neg, lt, le}
@@ -53,7 +54,8 @@ min_n = two  -- 2.0
 abbrev pub last_row : Float
 last_row = of_bits binary32 0x4140_0000  -- 12.0
 
--- weight1, weight2 and yh_proportion. `steps.floor() as usize` is the whole part of steps, which the clamp keeps from 0 to 12; a NaN's is 0.
+-- weight1, weight2 and yh_proportion. `steps.floor() as usize` is the whole part of steps, which the clamp keeps from
+-- 0 to 12; a NaN's is 0.
 unfoldable pub superellipse_conic_factors : Float → Float → Float × Float × Float
 superellipse_conic_factors n xj_over_a =
     let max_n = min_n ⊕ last_row ⊗ step in
@@ -88,7 +90,10 @@ superellipse_conics param yj_over_a =
     let factors = superellipse_conic_factors param.se_n (j.x ⊘ param.se_a) in
     let yh_proportion = factors.2 in
     let yh_over_a = (one ⊗ yh_proportion ⊕ yj_over_a) ⊘ (yh_proportion ⊕ one) in
-    let h = vec2 (pow_of (one ⊖ pow_of yh_over_a param.se_n) (one ⊘ param.se_n) ⊗ param.se_a) (yh_over_a ⊗ param.se_a) in
+    let h = vec2
+        (pow_of (one ⊖ pow_of yh_over_a param.se_n) (one ⊘ param.se_n) ⊗ param.se_a)
+        (yh_over_a ⊗ param.se_a)
+    in
     let k_a = zero in
     let k_j = neg (pow_of (j.x ⊘ j.y) (param.se_n ⊖ one)) in
     let k_h = neg (pow_of (h.x ⊘ h.y) (param.se_n ⊖ one)) in
@@ -108,13 +113,18 @@ unfoldable pub circular_arc_points : Octant → Point × Point × Point × Point
 circular_arc_points param =
     let start_vector = param.circle_start ⊟ param.circle_center in
     let turn = sin_cos_of (neg param.circle_max_angle) in
-    let end_vector = vec2 (start_vector.x ⊗ turn.cos ⊖ start_vector.y ⊗ turn.sin) (start_vector.x ⊗ turn.sin ⊕ start_vector.y ⊗ turn.cos) in
+    let end_vector = vec2
+        (start_vector.x ⊗ turn.cos ⊖ start_vector.y ⊗ turn.sin)
+        (start_vector.x ⊗ turn.sin ⊕ start_vector.y ⊗ turn.cos)
+    in
     let circle_end = param.circle_center ⊞ end_vector in
     let start_tangent = vec2_normalize (vec2 start_vector.y (neg start_vector.x)) in
     let end_tangent = vec2_normalize (vec2 (neg end_vector.y) end_vector.x) in
     let bezier_factor = tan_of (param.circle_max_angle ⊘ four) ⊗ four ⊘ three in
     let radius = vec2_length start_vector in
-    (param.circle_start, param.circle_start ⊞ start_tangent · bezier_factor · radius, circle_end ⊞ end_tangent · bezier_factor · radius, circle_end)
+    let c1 = param.circle_start ⊞ start_tangent · bezier_factor · radius in
+    let c2 = circle_end ⊞ end_tangent · bezier_factor · radius in
+    (param.circle_start, c1, c2, circle_end)
 
 -- ---- Placement
 
@@ -150,7 +160,11 @@ add_quadrant b param reverse scale_sign =
     if lt param.top.se_n two || lt param.right.se_n two
     then (let corner = param.top.offset ⊞ vec2 param.top.se_a param.top.se_a in
     let b1 = line_to b (param.offset ⊞ scale ⊠ corner) in
-    let next = if reverse then param.top.offset ⊞ vec2 zero param.top.se_a else param.right.offset ⊞ vec2 param.right.se_a zero in
+    let next =
+        if reverse
+        then param.top.offset ⊞ vec2 zero param.top.se_a
+        else param.right.offset ⊞ vec2 param.right.se_a zero
+    in
     line_to b1 (param.offset ⊞ scale ⊠ next))
     else (if reverse
     then (let b1 = add_octant b param.right param.offset scale false true in

@@ -1,5 +1,6 @@
--- The Rust's PathBuilder, of path.rs: its building calls in its words and in its order, on lists that grow. It knows no buffers and refuses nothing.
--- It borrows nothing that is computed elsewhere here: of this repository it takes the record of a point and the operations of f32. Definitions only.
+-- The Rust's PathBuilder, of path.rs: its building calls in its words and in its order, on lists that grow. It knows
+-- no buffers and refuses nothing. It borrows nothing that is computed elsewhere here: of this repository it takes the
+-- record of a point and the operations of f32. Definitions only.
 use Rattle.std.specs.Prelude.{List, [], ◌∷◌, ◌++◌, Bool, true, false, not, ◌&&◌, ◌||◌, ℕ, zero, suc, nat_le, Float, Option, Some, None, unwrap_or, if◌then◌else◌}
 use Rattle.std.specs.Float.{binary32}
 use Rattle.std.specs.Float.Ieee.{of_bits, lt, le}
@@ -74,31 +75,40 @@ is_empty (x ∷ xs) = false
 unfoldable pub ensure_started : PathBuilder → PathBuilder
 ensure_started b =
     if is_empty b.verbs
-    then record { verbs = b.verbs ++ 0 ∷ []; points = b.points ++ vec2_zero ∷ []; subpath_start = Some vec2_zero; current = Some vec2_zero }
+    then record {
+      verbs = b.verbs ++ 0 ∷ [];
+      points = b.points ++ vec2_zero ∷ [];
+      subpath_start = Some vec2_zero;
+      current = Some vec2_zero;
+    }
     else b
 
 unfoldable pub move_to : PathBuilder → Point → PathBuilder
-move_to b p = record { verbs = b.verbs ++ 0 ∷ []; points = b.points ++ p ∷ []; subpath_start = Some p; current = Some p }
+move_to b p = record {
+  verbs = b.verbs ++ 0 ∷ [];
+  points = b.points ++ p ∷ [];
+  subpath_start = Some p;
+  current = Some p;
+}
 
 unfoldable pub line_to : PathBuilder → Point → PathBuilder
 line_to b p =
     let b1 = ensure_started b in
-    record { verbs = b1.verbs ++ 1 ∷ []; points = b1.points ++ p ∷ []; subpath_start = b1.subpath_start; current = Some p }
+    record b1 { verbs = b1.verbs ++ 1 ∷ []; points = b1.points ++ p ∷ []; current = Some p }
 
 unfoldable pub quad_to : PathBuilder → Point → Point → PathBuilder
 quad_to b ctrl to =
     let b1 = ensure_started b in
-    record { verbs = b1.verbs ++ 2 ∷ []; points = b1.points ++ ctrl ∷ to ∷ []; subpath_start = b1.subpath_start; current = Some to }
+    record b1 { verbs = b1.verbs ++ 2 ∷ []; points = b1.points ++ ctrl ∷ to ∷ []; current = Some to }
 
 unfoldable pub cubic_to : PathBuilder → Point → Point → Point → PathBuilder
 cubic_to b c0 c1 to =
     let b1 = ensure_started b in
-    record { verbs = b1.verbs ++ 3 ∷ []; points = b1.points ++ c0 ∷ c1 ∷ to ∷ []; subpath_start = b1.subpath_start; current = Some to }
+    record b1 { verbs = b1.verbs ++ 3 ∷ []; points = b1.points ++ c0 ∷ c1 ∷ to ∷ []; current = Some to }
 
 unfoldable pub close : PathBuilder → PathBuilder
 close b =
-    if is_empty b.verbs then b
-    else record { verbs = b.verbs ++ 4 ∷ []; points = b.points; subpath_start = b.subpath_start; current = b.subpath_start }
+    if is_empty b.verbs then b else record b { verbs = b.verbs ++ 4 ∷ []; current = b.subpath_start }
 
 -- ---- a conic
 
@@ -112,8 +122,8 @@ max_depth = 6
 abbrev pub relative_error : Float
 relative_error = of_bits binary32 0x3a83_126f  -- 1e-3
 
--- push_conic. The first argument bounds the calls in each other for the definition's sake alone: every bound above the depths still to come
--- gives the same.
+-- push_conic. The first argument bounds the calls in each other for the definition's sake alone: every bound above
+-- the depths still to come gives the same.
 unfoldable pub push_conic : ℕ → PathBuilder → Point → Point → Point → Float → ℕ → PathBuilder
 push_conic zero b from ctrl to weight depth = b
 push_conic (suc bound) b from ctrl to weight depth =
@@ -134,5 +144,6 @@ unfoldable pub conic_to : PathBuilder → Point → Point → Float → PathBuil
 conic_to b ctrl to weight =
     let b1 = ensure_started b in
     let from = unwrap_or b1.current ctrl in
-    if not (finite weight) || le weight float_zero || not (vec2_is_finite ctrl) || not (vec2_is_finite to) then line_to b1 to
+    if not (finite weight) || le weight float_zero || not (vec2_is_finite ctrl) || not (vec2_is_finite to)
+    then line_to b1 to
     else push_conic 7 b1 from ctrl to weight 0

@@ -1,5 +1,6 @@
--- A list of building calls that finds room leaves in the buffers what the Rust's builder holds after it. That a shape and containment equal the Rust's
--- is said by the contracts of `new` and `contains`, whose definitions `new_of` and `contains_of` are their transcriptions. Definitions only.
+-- A list of building calls that finds room leaves in the buffers what the Rust's builder holds after it. That a shape
+-- and containment equal the Rust's is said by the contracts of `new` and `contains`, whose definitions `new_of` and
+-- `contains_of` are their transcriptions. Definitions only.
 use Rattle.std.specs.Prelude.{◌≡◌, List, [], ◌∷◌, ◌++◌, ℕ, ◌*◌, ◌/◌, ◌≤◌, length, take, Float}
 use Rattle.stream.specs.declared.Builder.{Builder}
 use Rattle.stream.specs.Stream.{floats_in}
@@ -28,7 +29,8 @@ after_calls b (c ∷ cs) = after_calls (after_call b c) cs
 abbrev pub rust_path : List BuildingCall → PathBuilder
 rust_path cs = after_calls new_builder cs
 
--- buffers of so many bytes and floats have a place for each verb and two floats for each point that the Rust's builder holds in the end
+-- buffers of so many bytes and floats have a place for each verb and two floats for each point that the Rust's
+-- builder holds in the end
 pub record FindsRoom (verb_room float_room : ℕ) (cs : List BuildingCall) : Type 0 where
   pub verbs : length (rust_path cs).verbs ≤ verb_room
   pub points : length (rust_path cs).points ≤ float_room / 2
@@ -38,8 +40,10 @@ pub record SameAsRust (b : Builder) (vs : List ℕ) (fs : List Float) (cs : List
   pub accepted : (pre : List BuildingCall) (c : BuildingCall) (post : List BuildingCall) → cs ≡ pre ++ c ∷ post
       → (step (state_after step b vs fs pre) c).number ≡ 0
   -- the verbs and the floats in front are the Rust's
-  pub verbs : let s = state_after step b vs fs cs in take s.builder.verbs s.verbs ≡ (rust_path cs).verbs
-  pub floats : let s = state_after step b vs fs cs in take (2 * s.builder.points) s.floats ≡ floats_in (rust_path cs).points
+  pub verbs : let s = state_after step b vs fs cs in
+      take s.builder.verbs s.verbs ≡ (rust_path cs).verbs
+  pub floats : let s = state_after step b vs fs cs in
+      take (2 * s.builder.points) s.floats ≡ floats_in (rust_path cs).points
 
 -- every list, from every record with both counts 0 and over buffers of any contents, if it finds room in them
 abbrev pub EveryListIsSameAsRust : Type 0
@@ -51,4 +55,5 @@ EveryListIsSameAsRust =
 abbrev pub EveryListFindsRoom : Type 0
 EveryListFindsRoom =
     (vs : List ℕ) (fs : List Float) (cs : List BuildingCall)
-    → length vs ≡ length (rust_path cs).verbs → length fs ≡ 2 * length (rust_path cs).points → FindsRoom (length vs) (length fs) cs
+    → length vs ≡ length (rust_path cs).verbs → length fs ≡ 2 * length (rust_path cs).points
+    → FindsRoom (length vs) (length fs) cs

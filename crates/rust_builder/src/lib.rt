@@ -1,5 +1,5 @@
-//! The Rust's PathBuilder and its outline of a shape on growing lists (specs/PathBuilder.antt, specs/AddTo.antt), and that
-//! every list of building calls that finds room leaves what they leave (specs/SameAsRust.antt). No code.
+//! The Rust's PathBuilder and its outline of a shape on growing lists (specs/PathBuilder.antt, specs/AddTo.antt), and
+//! that every list of building calls that finds room leaves what they leave (specs/SameAsRust.antt). No code.
 
 #![tactic(auto)]
 

@@ -1,6 +1,10 @@
 use Rattle.std.proofs.Common.{rules}
-use mathlib.Core.Path.{ap, ◌∙◌}
-use Rattle.reader.specs.Reading.{read_all}
+use mathlib.Core.Path.{sym, subst, ◌∙◌}
+use lib.ListN.{length}
+use Rattle.stream.specs.Stream.{State}
+use Rattle.conic_writer.specs.Entries.{elements_of}
+use Rattle.book.specs.Lists.{ReadsAs}
+use Rattle.building.specs.Faithful.{book_in}
 use Rattle.building.proofs.Performing.{answered-ok, answered-err, one-more, all-left, all-replies}
 use Rattle.building.proofs.EveryList.{every-list}
 use Rattle.building.proofs.perform.Goals as goal
@@ -24,7 +28,8 @@ returns-clause-replies c = all-replies c.loop-i.invariant (search rules)
 pub returns-clause-reads_back : goal.returns-clause-reads_back
 returns-clause-reads_back c v p =
     let a = c.args in
-    ap read_all (all-left c.loop-i.invariant (search rules)) ∙ (every-list a.b a.verbs.now a.points.now a.calls.now v p).every.whole
+    let ks = elements_of (book_in (length a.verbs.now) (length a.points.now) a.calls.now).entries in
+    subst (λ (s : State). ReadsAs s ks) (sym (all-left c.loop-i.invariant (search rules))) (every-list a.b a.verbs.now a.points.now a.calls.now v p).every.left
 
 pub returns-clause-faithful : goal.returns-clause-faithful
 returns-clause-faithful c v p = let a = c.args in every-list a.b a.verbs.now a.points.now a.calls.now v p
