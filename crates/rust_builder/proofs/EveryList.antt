@@ -8,7 +8,7 @@ use lib.ListN.{length, take, length-append}
 use borrow.Author.Tests.{le-leb}
 use Rattle.geometry.specs.declared.Point.{Point}
 use Rattle.stream.specs.declared.Element.{Element}
-use Rattle.stream.specs.Stream.{State, state, start_after, pen_after, sizes_of, floats_in, bytes_of}
+use Rattle.stream.specs.Stream.{State, state, fresh_builder, start_after, pen_after, sizes_of, floats_in, bytes_of}
 use Rattle.stream.proofs.Lists.{length-bytes}
 use Rattle.stream.proofs.Pushed.{sizes_append}
 use Rattle.conic_writer.specs.Entries.{Entry, elements_of}
@@ -23,7 +23,7 @@ use Rattle.book.proofs.Kept.{Holds, given_simulates}
 use Rattle.book.proofs.Every.{holds_none, each-call}
 use Rattle.building.proofs.Seven.{seven}
 use Rattle.rust_builder.specs.PathBuilder.{PathBuilder, new_builder, is_empty}
-use Rattle.rust_builder.specs.SameAsRust.{after_call, after_calls, EveryListIsSameAsRust, EveryListFindsRoom}
+use Rattle.rust_builder.specs.SameAsRust.{after_call, after_calls, EveryListIsSameAsRust, EveryFreshListIsSameAsRust, EveryListFindsRoom}
 use Rattle.rust_builder.proofs.Mirrors.{Mirrors, all_points, length-all_points, floats_of-points}
 use Rattle.rust_builder.proofs.Conics.{Behind}
 use Rattle.rust_builder.proofs.Outline.{after}
@@ -144,6 +144,9 @@ every_list b vs fs cs v p f =
       verbs = ap (λ (n : ℕ). take n s.verbs) h.many ∙ h.verbs ∙ sym x.of.verbs;
       floats = ap (λ (n : ℕ). take (2 * n) s.floats) h.size ∙ h.floats ∙ floats_of-points ks ∙ ap floats_in (sym x.of.points);
     }
+
+pub fresh_list : EveryFreshListIsSameAsRust
+fresh_list vs fs cs f = every_list fresh_builder vs fs cs refl refl f
 
 pub finds_room : EveryListFindsRoom
 finds_room vs fs cs v p = record { verbs = omega arith; points = omega arith }

@@ -3,7 +3,7 @@
 -- `contains_of` are their transcriptions. Definitions only.
 use Rattle.std.specs.Prelude.{◌≡◌, List, [], ◌∷◌, ◌++◌, ℕ, ◌*◌, ◌/◌, ◌≤◌, length, take, Float}
 use Rattle.stream.specs.declared.Builder.{Builder}
-use Rattle.stream.specs.Stream.{floats_in}
+use Rattle.stream.specs.Stream.{fresh_builder, floats_in}
 use Rattle.outline.specs.declared.BuildingCall.{BuildingCall}
 use Rattle.outline.specs.declared.BuildingCall.TheVariants.{MoveTo, LineTo, QuadTo, ConicTo, CubicTo, Close, AddTo}
 use Rattle.outline.specs.Step.{step}
@@ -45,11 +45,17 @@ pub record SameAsRust (b : Builder) (vs : List ℕ) (fs : List Float) (cs : List
   pub floats : let s = state_after step b vs fs cs in
       take (2 * s.builder.points) s.floats ≡ floats_in (rust_path cs).points
 
--- every list, from every record with both counts 0 and over buffers of any contents, if it finds room in them
+-- every list that finds room, from every record with both counts 0 and over buffers of any contents
 abbrev pub EveryListIsSameAsRust : Type 0
 EveryListIsSameAsRust =
     (b : Builder) (vs : List ℕ) (fs : List Float) (cs : List BuildingCall)
     → b.verbs ≡ 0 → b.points ≡ 0 → FindsRoom (length vs) (length fs) cs → SameAsRust b vs fs cs
+
+-- and so from the fresh record
+abbrev pub EveryFreshListIsSameAsRust : Type 0
+EveryFreshListIsSameAsRust =
+    (vs : List ℕ) (fs : List Float) (cs : List BuildingCall)
+    → FindsRoom (length vs) (length fs) cs → SameAsRust fresh_builder vs fs cs
 
 -- every list finds room in buffers as long as what the Rust's builder holds after it
 abbrev pub EveryListFindsRoom : Type 0

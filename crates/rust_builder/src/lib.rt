@@ -3,11 +3,13 @@
 
 #![tactic(auto)]
 
-ghost use Rattle.rust_builder.specs.SameAsRust.{EveryListIsSameAsRust, EveryListFindsRoom};
+ghost use Rattle.rust_builder.specs.SameAsRust.{EveryListIsSameAsRust, EveryFreshListIsSameAsRust, EveryListFindsRoom};
 
-/// Every list of building calls that finds room leaves in the buffers what the Rust's builder holds after it.
+/// Every list of building calls that finds room leaves in the buffers what the Rust's builder holds after it: from
+/// any record with both counts 0, and so from the fresh one.
 pub fn every_list_is_same_as_rust()
-    ensures { EveryListIsSameAsRust }
+    ensures empty { EveryListIsSameAsRust }
+    ensures fresh { EveryFreshListIsSameAsRust }
 {}
 
 /// There are buffers in which it finds room: as long as what the Rust's builder holds after it.
