@@ -14,8 +14,10 @@ use Rattle.stream.specs.Stream.{State, state, sizes_of}
 use Rattle.reader.proofs.Holding.{holding_none, reads_back, reads_all}
 use Rattle.conic_writer.specs.Entries.{Entry, elements_of, joint_word}
 use Rattle.calls.specs.Calls.{Outcome}
-use Rattle.book.specs.Book.{Book, empty_book, Reply, reply, accepts, entries_added}
-use Rattle.book.specs.Lists.{IsEmpty, count_verb, count_points, GivenByEntries, EachCall, EveryList, state_after, book_of}
+use Rattle.book.specs.declared.Reply.{Reply}
+use Rattle.book.specs.Book.{Book, empty_book, reply, accepts, entries_added}
+use Rattle.book.specs.Lists.{count_verb, count_points, EachCall, EveryList, state_after, book_of}
+use Rattle.book.proofs.Given.{GivenByEntries}
 use Rattle.book.proofs.Simulated.{run-keeps, run-agrees}
 use Rattle.book.proofs.Kept.{Holds, given_simulates, refused_same}
 
@@ -32,9 +34,9 @@ sizes_count (Close ∷ ks) = omega (arith, sizes_count ks)
 
 -- ---- every list
 
-pub holds_none : (b : Builder) (vs : List ℕ) (fs : List Float) → IsEmpty b → Holds (length vs) (length fs) (state b vs fs) empty_book
+pub holds_none : (b : Builder) (vs : List ℕ) (fs : List Float) → b.verbs ≡ 0 → b.points ≡ 0 → Holds (length vs) (length fs) (state b vs fs) empty_book
 unfolding elements_of
-holds_none b vs fs e = record { vlen = refl; flen = refl; holding = holding_none (state b vs fs) e.0 e.1; spot = λ n. let z : ◌≡◌ {A = ℕ} 0 1 = cc in absurd (omega arith) }
+holds_none b vs fs v p = record { vlen = refl; flen = refl; holding = holding_none (state b vs fs) v p; spot = λ n. let z : ◌≡◌ {A = ℕ} 0 1 = cc in absurd (omega arith) }
 
 number_is : (t : Bool) (w : ℕ) → (cond t (reply 0 w) (reply 5 0)).number ≡ cond t 0 5
 number_is true w = refl
@@ -50,19 +52,16 @@ module _ {C : Type 0} {step : State → C → Outcome} {entries : Bool → Point
       }
 
   -- the builder holds the book's elements after every list
-  pub holds_after : (b : Builder) (vs : List ℕ) (fs : List Float) (cs : List C) → IsEmpty b → Holds (length vs) (length fs) (state_after step b vs fs cs) (book_of entries answers_word (length vs) (length fs) cs)
-  holds_after b vs fs cs e = run-keeps (given_simulates given (length vs) (length fs)) (state b vs fs) empty_book cs (holds_none b vs fs e)
+  pub holds_after : (b : Builder) (vs : List ℕ) (fs : List Float) (cs : List C) → b.verbs ≡ 0 → b.points ≡ 0 → Holds (length vs) (length fs) (state_after step b vs fs cs) (book_of entries answers_word (length vs) (length fs) cs)
+  holds_after b vs fs cs v p = run-keeps (given_simulates given (length vs) (length fs)) (state b vs fs) empty_book cs (holds_none b vs fs v p)
 
-  pub every_list : (b : Builder) (vs : List ℕ) (fs : List Float) (cs : List C) → IsEmpty b → EveryList step entries answers_word b vs fs cs
-  every_list b vs fs cs e =
+  pub every_list : (b : Builder) (vs : List ℕ) (fs : List Float) (cs : List C) → b.verbs ≡ 0 → b.points ≡ 0 → EveryList step entries answers_word b vs fs cs
+  every_list b vs fs cs v p =
       let verb_room = length vs in
       let float_room = length fs in
-      let f = holds_after b vs fs cs e in
+      let f = holds_after b vs fs cs v p in
       record {
-        answered = run-agrees (given_simulates given verb_room float_room) (state b vs fs) empty_book cs (holds_none b vs fs e);
-        each = λ pre c post q. each-call verb_room float_room (state_after step b vs fs pre) (book_of entries answers_word verb_room float_room pre) c (holds_after b vs fs pre e);
-        stream = reads_back f.holding;
-        whole = reads_all (reads_back f.holding);
-        verbs = f.holding.many;
-        points = f.holding.size ∙ sizes_count _;
+        replies = run-agrees (given_simulates given verb_room float_room) (state b vs fs) empty_book cs (holds_none b vs fs v p);
+        each = λ pre c post q. each-call verb_room float_room (state_after step b vs fs pre) (book_of entries answers_word verb_room float_room pre) c (holds_after b vs fs pre v p);
+        left = record { stream = reads_back f.holding; whole = reads_all (reads_back f.holding); verbs = f.holding.many; points = f.holding.size ∙ sizes_count _ };
       }

@@ -17,9 +17,9 @@ use Rattle.reader.proofs.Holding.{Holding, holding_all, holding_good}
 use Rattle.conic_writer.specs.Entries.{Entry, elements_of, joint_word}
 use Rattle.conic_writer.proofs.Entries.{elements_append}
 use Rattle.calls.specs.Calls.{Outcome, outcome, attempt}
-use Rattle.book.specs.Simulation.{Simulates}
 use Rattle.book.specs.Book.{Book, is_nil, fits_in, accepts, book_with, reply, builder_machine, entries_added, book_machine}
-use Rattle.book.specs.Lists.{Opens, said, GivenByEntries}
+use Rattle.book.proofs.Simulated.{Simulates}
+use Rattle.book.proofs.Given.{Opens, with_word_if, GivenByEntries}
 
 -- behind a move, start and pen depend on nothing before it
 record Anywhere (s p s' p' : Point) (ks : List Element) : Type 0 where
@@ -79,14 +79,14 @@ attempt-is es h = rw (holding_good h.holding, fits-is es h)
 -- ---- a call
 
 -- what a call that adds es and answers a word, or none, leaves and answers: done, or refused for want of room
-abbrev settled : State → List Entry → Bool → Bool → Outcome
-settled s es w t = cond t (outcome 0 (cond w (joint_word es) 0) (push_all s (elements_of es))) (outcome 5 0 s)
+abbrev outcome_if : State → List Entry → Bool → Bool → Outcome
+outcome_if s es w t = cond t (outcome 0 (cond w (joint_word es) 0) (push_all s (elements_of es))) (outcome 5 0 s)
 
-said_settled : (s : State) (es : List Entry) (w t : Bool) → said w (cond t (outcome 0 (joint_word es) (push_all s (elements_of es))) (outcome 5 0 s)) ≡ settled s es w t
-said_settled s es true true = refl
-said_settled s es true false = refl
-said_settled s es false true = refl
-said_settled s es false false = refl
+outcome_if-word : (s : State) (es : List Entry) (w t : Bool) → with_word_if w (cond t (outcome 0 (joint_word es) (push_all s (elements_of es))) (outcome 5 0 s)) ≡ outcome_if s es w t
+outcome_if-word s es true true = refl
+outcome_if-word s es true false = refl
+outcome_if-word s es false true = refl
+outcome_if-word s es false false = refl
 
 module _ {C : Type 0} {step : State → C → Outcome} {entries : Bool → Point → C → List Entry} {answers_word : C → Bool} (given : GivenByEntries step entries answers_word) (verb_room float_room : ℕ) where
   same_go : (s : State) (k : Book) (c : C) (es : List Entry) → (is_nil es ≡ false → Spot s k) → entries (is_nil es) s.builder.pen c ≡ entries (is_nil es) k.pen c
@@ -97,13 +97,13 @@ module _ {C : Type 0} {step : State → C → Outcome} {entries : Bool → Point
   same_entries : (s : State) (k : Book) (c : C) → Holds verb_room float_room s k → entries (is_empty s.builder) s.builder.pen c ≡ entries_added entries k c
   same_entries s k c h = ap (λ (b : Bool). entries b s.builder.pen c) (empty_is h) ∙ same_go s k c k.entries h.spot
 
-  call-is : (s : State) (k : Book) (c : C) → Holds verb_room float_room s k → let es = entries_added entries k c in step s c ≡ settled s es (answers_word c) (accepts verb_room float_room k es)
+  call-is : (s : State) (k : Book) (c : C) → Holds verb_room float_room s k → let es = entries_added entries k c in step s c ≡ outcome_if s es (answers_word c) (accepts verb_room float_room k es)
   call-is s k c h =
       let es = entries_added entries k c in
       given.given s c
-      ∙ ap (λ (ds : List Entry). said (answers_word c) (attempt s ds)) (same_entries s k c h)
-      ∙ ap (said (answers_word c)) (attempt-is es h)
-      ∙ said_settled s es (answers_word c) (accepts verb_room float_room k es)
+      ∙ ap (λ (ds : List Entry). with_word_if (answers_word c) (attempt s ds)) (same_entries s k c h)
+      ∙ ap (with_word_if (answers_word c)) (attempt-is es h)
+      ∙ outcome_if-word s es (answers_word c) (accepts verb_room float_room k es)
 
   spot_go : (s : State) (k : Book) (c : C) (es : List Entry) → (is_nil es ≡ false → Spot s k) → is_nil (es ++ entries (is_nil es) k.pen c) ≡ false → Spot (push_all s (elements_of (entries (is_nil es) k.pen c))) (book_with k (entries (is_nil es) k.pen c))
   spot_go s k c [] f n =
@@ -116,7 +116,7 @@ module _ {C : Type 0} {step : State → C → Outcome} {entries : Bool → Point
       record { start = push_all-start s ks ∙ ap (λ (p : Point). start_after p ks) g.start; pen = push_all-pen s ks ∙ ap₂ (λ (p q : Point). pen_after p q ks) g.start g.pen }
 
   kept_go : (s : State) (k : Book) (c : C) (t : Bool) → Holds verb_room float_room s k → accepts verb_room float_room k (entries_added entries k c) ≡ t
-      → Holds verb_room float_room (settled s (entries_added entries k c) (answers_word c) t).state (cond t (book_with k (entries_added entries k c)) k)
+      → Holds verb_room float_room (outcome_if s (entries_added entries k c) (answers_word c) t).state (cond t (book_with k (entries_added entries k c)) k)
   unfolding fits_in
   kept_go s k c true h e =
       let es = entries_added entries k c in
@@ -136,7 +136,7 @@ module _ {C : Type 0} {step : State → C → Outcome} {entries : Bool → Point
       }
   kept_go s k c false h e = h
 
-  says_go : (s : State) (es : List Entry) (w t : Bool) → let o = settled s es w t in reply o.number o.word ≡ cond t (reply 0 (cond w (joint_word es) 0)) (reply 5 0)
+  says_go : (s : State) (es : List Entry) (w t : Bool) → let o = outcome_if s es w t in reply o.number o.word ≡ cond t (reply 0 (cond w (joint_word es) 0)) (reply 5 0)
   says_go s es w true = refl
   says_go s es w false = refl
 
@@ -148,8 +148,8 @@ module _ {C : Type 0} {step : State → C → Outcome} {entries : Bool → Point
 
   -- where the book has no room nothing changes
   pub refused_same : (s : State) (k : Book) (c : C) → Holds verb_room float_room s k → accepts verb_room float_room k (entries_added entries k c) ≡ false → (step s c).state ≡ s
-  refused_same s k c h e = ap (λ (o : Outcome). o.state) (call-is s k c h ∙ ap (settled s (entries_added entries k c) (answers_word c)) e)
+  refused_same s k c h e = ap (λ (o : Outcome). o.state) (call-is s k c h ∙ ap (outcome_if s (entries_added entries k c) (answers_word c)) e)
 
   -- the joint word of an accepted call
   pub accepted_word : (s : State) (k : Book) (c : C) → Holds verb_room float_room s k → accepts verb_room float_room k (entries_added entries k c) ≡ true → (step s c).word ≡ cond (answers_word c) (joint_word (entries_added entries k c)) 0
-  accepted_word s k c h e = ap (λ (o : Outcome). o.word) (call-is s k c h ∙ ap (settled s (entries_added entries k c) (answers_word c)) e)
+  accepted_word s k c h e = ap (λ (o : Outcome). o.word) (call-is s k c h ∙ ap (outcome_if s (entries_added entries k c) (answers_word c)) e)

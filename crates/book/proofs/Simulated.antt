@@ -1,7 +1,12 @@
--- A relation that each call keeps is kept by every list, with the same answers.
+-- One machine simulates another: a relation that each call keeps is kept by every list, with the same answers.
 use mathlib.Core.Path.{◌≡◌, refl, ap₂}
 use mathlib.Core.List.{List, [], ◌∷◌}
-use Rattle.book.specs.Simulation.{Machine, run, answers, Simulates}
+use Rattle.book.specs.Machine.{Machine, run, answers}
+
+-- each call keeps R between the two states, and both answer it alike
+pub record Simulates {S T C A : Type 0} (m : Machine S C A) (n : Machine T C A) (R : S → T → Type 0) : Type 0 where
+  pub keeps : (s : S) (t : T) (c : C) → R s t → R (m.step s c) (n.step t c)
+  pub agrees : (s : S) (t : T) (c : C) → R s t → m.says s c ≡ n.says t c
 
 module _ {S T C A : Type 0} {m : Machine S C A} {n : Machine T C A} {R : S → T → Type 0} (h : Simulates m n R) where
   pub run-keeps : (s : S) (t : T) (cs : List C) → R s t → R (run m s cs) (run n t cs)

@@ -1,3 +1,3 @@
-pub mod Simulation
+pub mod Machine
 pub mod Book
 pub mod Lists

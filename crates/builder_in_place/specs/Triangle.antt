@@ -8,8 +8,9 @@ use Rattle.calls.specs.declared.Call.TheVariants as call
 use Rattle.calls.specs.declared.BuildError.{BuildError}
 use Rattle.calls.specs.Calls.{step}
 use Rattle.builder_in_place.specs.InPlace.{answer_number}
-use Rattle.book.specs.Simulation.{run, answers}
-use Rattle.book.specs.Book.{Reply, reply, builder_machine}
+use Rattle.book.specs.Machine.{run, answers}
+use Rattle.book.specs.declared.Reply.{Reply}
+use Rattle.book.specs.Book.{reply, builder_machine}
 use Rattle.builder_in_place.specs.declared.TriangleAnswers.{TriangleAnswers}
 
 -- a move to p, lines to q and r, and a close

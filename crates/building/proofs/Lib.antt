@@ -1,4 +1,5 @@
 -- Every list of the seven building calls.
+pub mod Performing
 pub mod Six
 pub mod Seven
 pub mod EveryList

@@ -8,10 +8,10 @@ use Rattle.calls.specs.Calls.{attempt}
 use Rattle.outline.specs.declared.BuildingCall.{BuildingCall}
 use Rattle.outline.specs.declared.BuildingCall.TheVariants.{MoveTo, LineTo, QuadTo, ConicTo, CubicTo, Close, AddTo}
 use Rattle.outline.specs.Step.{entries_of, answers_word, step}
-use Rattle.book.specs.Lists.{Opens, said, GivenByEntries}
+use Rattle.book.proofs.Given.{Opens, with_word_if, GivenByEntries}
 use Rattle.building.proofs.Six.{six_step, six_opens, six_no_pen, outline_opens}
 
-seven-given : (s : State) (c : BuildingCall) → step s c ≡ said (answers_word c) (attempt s (entries_of (is_empty s.builder) s.builder.pen c))
+seven-given : (s : State) (c : BuildingCall) → step s c ≡ with_word_if (answers_word c) (attempt s (entries_of (is_empty s.builder) s.builder.pen c))
 unfolding step entries_of
 seven-given s (MoveTo a) = six_step s _
 seven-given s (LineTo a) = six_step s _

@@ -14,7 +14,7 @@ use Rattle.shape.specs.declared.RoundSuperellipse.{RoundSuperellipse}
 use Rattle.outline_corners.specs.Calls.{calls_in, outline_calls}
 use Rattle.outline_need.specs.Entries.{entries_along, outline_entries}
 use Rattle.outline_need.proofs.Conics.{conic_adds}
-use Rattle.book.specs.Lists.{Opens}
+use Rattle.book.proofs.Given.{Opens}
 
 -- a step attempts the call's entries
 pub six_step : (s : State) (c : Call) → step s c ≡ attempt s (entries_of (is_empty s.builder) s.builder.pen c)

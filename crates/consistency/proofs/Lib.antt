@@ -1,2 +1,2 @@
--- Laws of an outline drawn into buffers that hold the largest one.
-pub mod Drawn
+-- An outline drawn into buffers that hold the largest one.
+pub mod FreshOutline

@@ -1,1 +1,1 @@
-pub mod Inspection
+pub mod Consistency

@@ -1,25 +1,25 @@
-//! Whether the outline and the touch area of a shape keep together: no center lies outside the bounds, so that no corner looks
-//! the wrong way, and every point of the outline is finite.
+//! Whether the outline and the touch area of a shape are consistent: no center lies outside the bounds, so that no
+//! corner looks the wrong way, and every point of the outline is finite.
 
 #![tactic(auto)]
 
 ghost use Rattle.std.specs.Prelude.{◌≡◌};
-ghost use Rattle.consistency.specs.Inspection.{within_bounds, centered, all_finite, finite_outline, consistent_of};
+ghost use Rattle.consistency.specs.Consistency.{within_bounds, centers_within, all_finite, finite_outline, consistent_of};
 
 use geometry::Point;
 use shape::{Bounds, RoundSuperellipse};
 
 // A NaN is not within.
-#[tactic(auto, unfolding(crate::specs::Inspection::within_bounds))]
+#[tactic(auto, unfolding(crate::specs::Consistency::within_bounds))]
 fn within(bounds: Bounds, p: Point) -> bool
     ensures { result ≡ within_bounds bounds p }
 {
     bounds.min.x <= p.x && p.x <= bounds.max.x && bounds.min.y <= p.y && p.y <= bounds.max.y
 }
 
-#[tactic(auto, unfolding(crate::specs::Inspection::centered))]
-fn is_centered(bounds: Bounds, shape: RoundSuperellipse) -> bool
-    ensures { result ≡ centered bounds shape }
+#[tactic(auto, unfolding(crate::specs::Consistency::centers_within))]
+fn centers_within(bounds: Bounds, shape: RoundSuperellipse) -> bool
+    ensures { result ≡ centers_within bounds shape }
 {
     within(bounds, shape.top_right.offset)
         && within(bounds, shape.bottom_right.offset)
@@ -33,8 +33,8 @@ fn are_finite(floats: &[f32]) -> bool
     floats.iter().all(|x| ieee::is_finite(*x))
 }
 
-// The outline is drawn into buffers that hold the largest one, so it is never refused. Arrays and no Vec: the library has no
-// heap.
+// The outline is drawn into buffers that hold the largest one, so it is never refused. Arrays and no Vec: the library
+// has no heap.
 fn has_finite_outline(shape: RoundSuperellipse) -> bool
     ensures { result ≡ finite_outline shape }
 {
@@ -46,10 +46,10 @@ fn has_finite_outline(shape: RoundSuperellipse) -> bool
     are_finite(&points[..2 * b.points])
 }
 
-/// Of a shape and the bounds that it was made for.
-#[tactic(auto, unfolding(crate::specs::Inspection::consistent_of))]
+/// Whether a shape and the bounds that it was made for are consistent.
+#[tactic(auto, unfolding(crate::specs::Consistency::consistent_of))]
 pub fn is_consistent(bounds: Bounds, shape: RoundSuperellipse) -> bool
     ensures { result ≡ consistent_of bounds shape }
 {
-    is_centered(bounds, shape) && has_finite_outline(shape)
+    centers_within(bounds, shape) && has_finite_outline(shape)
 }

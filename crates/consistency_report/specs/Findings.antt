@@ -9,7 +9,7 @@ use Rattle.shape.specs.declared.Bounds.{Bounds}
 use Rattle.shape.specs.Refusal.{ShapeOutcome}
 use Rattle.shape.specs.Refusal.{made as Made, refused as RefusedBy}
 use Rattle.touch.specs.Touch.{shape_of}
-use Rattle.consistency.specs.Inspection.{consistent_of}
+use Rattle.consistency.specs.Consistency.{consistent_of}
 use Rattle.report_lines.specs.declared.Line.{Line}
 use Rattle.report_lines.specs.declared.Line.TheVariants.{Refused, Consistent, Apart, Broken}
 

@@ -10,7 +10,7 @@ use Rattle.calls.specs.Calls.{entries_of}
 use Rattle.outline_need.specs.Entries.{outline_entries}
 use Rattle.outline.specs.declared.BuildingCall.TheVariants.{AddTo}
 use Rattle.outline.specs.Step.{step}
-use Rattle.consistency.specs.Inspection.{consistent_of}
+use Rattle.consistency.specs.Consistency.{consistent_of}
 use Rattle.ffi_shape.specs.Layout.{shape_at, bounds_at}
 use Rattle.ffi_path.specs.Lent.{builder_at, fitting, wrong_length, PathAnswer, path_answer, lent_by}
 

@@ -1,3 +1,3 @@
 -- Laws of an outline as a call.
 pub mod Pushed
-pub mod Outlined
+pub mod OutlineCall

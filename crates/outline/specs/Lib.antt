@@ -1,1 +1,3 @@
 pub mod Step
+pub use Rattle.stream.specs.Stream
+pub use Rattle.calls.specs.Calls

@@ -1,4 +1,5 @@
--- The seven building calls: the six of path.rs, and the outline of a shape. Every public call's contract is an equation with `step`. Definitions only.
+-- The seven building calls: the six of path.rs, and the outline of a shape. Every public call's contract is an
+-- equation with `step`. Definitions only.
 use Rattle.std.specs.Prelude.{List, Bool, true, false}
 use Rattle.geometry.specs.declared.Point.{Point}
 use Rattle.stream.specs.Stream.{State}
@@ -30,8 +31,9 @@ answers_word (CubicTo a b c) = true
 answers_word Close = true
 answers_word (AddTo shape) = false
 
-abbrev pub wordless : Outcome → Outcome
-wordless o = outcome o.number 0 o.state
+-- an outcome with no joint word
+abbrev pub without_word : Outcome → Outcome
+without_word o = outcome o.number 0 o.state
 
 -- what a call leaves and answers; an outline: all of its entries, or nothing
 unfoldable pub step : State → BuildingCall → Outcome
@@ -41,4 +43,4 @@ step s (QuadTo a b) = calls.step s (call.QuadTo a b)
 step s (ConicTo a b w) = calls.step s (call.ConicTo a b w)
 step s (CubicTo a b c) = calls.step s (call.CubicTo a b c)
 step s Close = calls.step s call.Close
-step s (AddTo shape) = wordless (attempt s (outline_entries shape))
+step s (AddTo shape) = without_word (attempt s (outline_entries shape))

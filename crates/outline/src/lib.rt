@@ -1,5 +1,5 @@
-//! The outline of a shape as a building call: its need is counted before anything is written, and it is written whole or
-//! not at all.
+//! The outline of a shape as a building call: its need is counted before anything is written, and it is written whole
+//! or not at all.
 
 #![tactic(auto)]
 
@@ -14,14 +14,15 @@ ghost use Rattle.outline.specs.Step.{step};
 
 use calls::BuildError;
 use conic::Conic;
-use outline_corners::{ConicArc, Corner, Corners, OctantArcs, Outline};
 use geometry::Point;
+use outline_corners::{ConicArc, Corner, Corners, OctantArcs, Outline};
 use shape::RoundSuperellipse;
 use stream::{Builder, Element, Need};
 
-/// The largest outline.
+/// The most verbs that an outline has.
 pub const MOST_VERBS: usize = 1035;
 
+/// The most points that it has.
 pub const MOST_POINTS: usize = 2074;
 
 /// A building call as a value: the six of path.rs, and the outline of a shape.
@@ -40,7 +41,8 @@ pub enum BuildingCall {
 // A conic from the pen, behind the held elements, for which there is room.
 fn push_conic(b: Builder, verbs: &mut [u8], points: &mut [f32], arc: ConicArc) -> Builder
     requires { RoomAlong (state b verbs.old points.old) (conic_call arc ∷ []) }
-    ensures { state result verbs.new points.new ≡ push_calls (state b verbs.old points.old) (conic_call arc ∷ []) }
+    ensures { state result verbs.new points.new
+        ≡ push_calls (state b verbs.old points.old) (conic_call arc ∷ []) }
 {
     let from = b.pen;
     let ctrl = arc.ctrl;
@@ -57,7 +59,8 @@ fn push_conic(b: Builder, verbs: &mut [u8], points: &mut [f32], arc: ConicArc) -
 // An octant, a corner and an outline likewise.
 fn push_forwards(b: Builder, verbs: &mut [u8], points: &mut [f32], o: OctantArcs) -> Builder
     requires { RoomAlong (state b verbs.old points.old) (calls_forwards o) }
-    ensures { state result verbs.new points.new ≡ push_calls (state b verbs.old points.old) (calls_forwards o) }
+    ensures { state result verbs.new points.new
+        ≡ push_calls (state b verbs.old points.old) (calls_forwards o) }
 {
     let b1 = push_conic(b, verbs, points, o.first);
     let b2 = push_conic(b1, verbs, points, o.second);
@@ -71,7 +74,8 @@ fn push_forwards(b: Builder, verbs: &mut [u8], points: &mut [f32], o: OctantArcs
 
 fn push_backwards(b: Builder, verbs: &mut [u8], points: &mut [f32], o: OctantArcs) -> Builder
     requires { RoomAlong (state b verbs.old points.old) (calls_backwards o) }
-    ensures { state result verbs.new points.new ≡ push_calls (state b verbs.old points.old) (calls_backwards o) }
+    ensures { state result verbs.new points.new
+        ≡ push_calls (state b verbs.old points.old) (calls_backwards o) }
 {
     let b1 = stream::push(
         b,
@@ -85,7 +89,8 @@ fn push_backwards(b: Builder, verbs: &mut [u8], points: &mut [f32], o: OctantArc
 
 fn push_corner(b: Builder, verbs: &mut [u8], points: &mut [f32], corner: Corner) -> Builder
     requires { RoomAlong (state b verbs.old points.old) (calls_of corner) }
-    ensures { state result verbs.new points.new ≡ push_calls (state b verbs.old points.old) (calls_of corner) }
+    ensures { state result verbs.new points.new
+        ≡ push_calls (state b verbs.old points.old) (calls_of corner) }
 {
     match corner {
         Corner::Square(p, q) => {
@@ -101,7 +106,8 @@ fn push_corner(b: Builder, verbs: &mut [u8], points: &mut [f32], corner: Corner)
 
 fn push_corners(b: Builder, verbs: &mut [u8], points: &mut [f32], corners: Corners) -> Builder
     requires { RoomAlong (state b verbs.old points.old) (flatten (call_lists corners)) }
-    ensures { state result verbs.new points.new ≡ push_calls (state b verbs.old points.old) (flatten (call_lists corners)) }
+    ensures { state result verbs.new points.new
+        ≡ push_calls (state b verbs.old points.old) (flatten (call_lists corners)) }
 {
     let first = corners.first;
     let second = corners.second;
@@ -116,7 +122,8 @@ fn push_corners(b: Builder, verbs: &mut [u8], points: &mut [f32], corners: Corne
 // The closing line goes to the start, not to the pen.
 fn push_outline(b: Builder, verbs: &mut [u8], points: &mut [f32], o: Outline) -> Builder
     requires { RoomAlong (state b verbs.old points.old) (calls_in (drawing_of o)) }
-    ensures { state result verbs.new points.new ≡ push_calls (state b verbs.old points.old) (calls_in (drawing_of o)) }
+    ensures { state result verbs.new points.new
+        ≡ push_calls (state b verbs.old points.old) (calls_in (drawing_of o)) }
 {
     let start = o.start;
     let corners = o.corners;
@@ -128,7 +135,8 @@ fn push_outline(b: Builder, verbs: &mut [u8], points: &mut [f32], o: Outline) ->
 
 // Buffers with room for the largest outline have room for any: only in fuller ones is the need counted.
 fn admit_outline(b: Builder, verbs: usize, floats: usize, o: Outline) -> Result<(), BuildError>
-    ensures { result ≡ admit_of b verbs floats (need_of (elements_of (entries_along origin origin (calls_in (drawing_of o))))) }
+    ensures { result ≡ admit_of b verbs floats
+        (need_of (elements_of (entries_along origin origin (calls_in (drawing_of o))))) }
 {
     let largest = Need {
         verbs: MOST_VERBS,
@@ -149,7 +157,8 @@ pub fn add_to(
     verbs: &mut [u8],
     points: &mut [f32],
 ) -> Result<Builder, BuildError>
-    ensures { outcome_of result verbs.new points.new ≡ step (state b verbs.old points.old) (BuildingCall.AddTo shape) }
+    ensures { outcome_of result verbs.new points.new
+        ≡ step (state b verbs.old points.old) (BuildingCall.AddTo shape) }
 {
     let o = outline_corners::draw(shape);
     admit_outline(b, verbs.len(), points.len(), o)?;

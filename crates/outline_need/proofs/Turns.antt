@@ -29,12 +29,12 @@ use Rattle.outline_corners.specs.declared.Corner.TheVariants.{Square, Round}
 use Rattle.outline_corners.specs.declared.Outline.{Outline}
 use Rattle.outline_corners.specs.Calls.{calls_of, drawing_of, calls_in, outline_of, outline_calls}
 use Rattle.outline_need.specs.Entries.{entries_along, Passes, outline_entries}
-use Rattle.outline_need.proofs.Passing.{along_one, along_then, passes_line, passes_cubic, passes-conic, passes-join, passes_none, outline_entries_lem}
-use Rattle.outline_need.specs.Parts.{Sized, call_of, CornerEntries, square, round, CornersEntries, none, corner, quadrants_of, OutlineEntries}
+use Rattle.outline_need.proofs.Passing.{along_one, along_then, passes_line, passes_cubic, passes-conic, passes-join, outline_entries_lem}
+use Rattle.outline_need.specs.Parts.{HasSizes, call_of, CornerEntries, square, round, CornersEntries, none, corner, quadrants_of, OutlineEntries}
 
 -- ---- sizes
 
-sized_join : {es ds : List Entry} {v v' p p' w w' q q' : ℕ} → Sized es v v' p p' → Sized ds w w' q q' → Sized (es ++ ds) (v + w) (v' + w') (p + q) (p' + q')
+sized_join : {es ds : List Entry} {v v' p p' w w' q q' : ℕ} → HasSizes es v v' p p' → HasSizes ds w w' q q' → HasSizes (es ++ ds) (v + w) (v' + w') (p + q) (p' + q')
 sized_join {es} {ds} {v} {v'} {p} {p'} {w} {w'} {q} {q'} h g =
     let e = elements_append es ds in
     let l = ap length e ∙ length-append (elements_of es) (elements_of ds) in
@@ -46,19 +46,19 @@ sized_join {es} {ds} {v} {v'} {p} {p'} {w} {w'} {q} {q'} h g =
       most_points = omega (arith, h.most_points, g.most_points);
     }
 
-sized_none : Sized [] 0 0 0 0
+sized_none : HasSizes [] 0 0 0 0
 unfolding elements_of sizes_of
 sized_none = record { least = lit≤ tt; most = lit≤ tt; least_points = lit≤ tt; most_points = lit≤ tt }
 
-sized_line : (a : Point) → Sized (plain (Line a) ∷ []) 1 1 1 1
+sized_line : (a : Point) → HasSizes (plain (Line a) ∷ []) 1 1 1 1
 unfolding elements_of sizes_of
 sized_line a = record { least = lit≤ tt; most = lit≤ tt; least_points = lit≤ tt; most_points = lit≤ tt }
 
-sized_cubic : (a b c : Point) → Sized (plain (Cubic a b c) ∷ []) 1 1 3 3
+sized_cubic : (a b c : Point) → HasSizes (plain (Cubic a b c) ∷ []) 1 1 3 3
 unfolding elements_of sizes_of
 sized_cubic a b c = record { least = lit≤ tt; most = lit≤ tt; least_points = lit≤ tt; most_points = lit≤ tt }
 
-sized_conic : {c : Conic} {es : List Entry} {w : ℕ} → LineOrQuads c es w → Sized es 1 64 1 128
+sized_conic : {c : Conic} {es : List Entry} {w : ℕ} → LineOrQuads c es w → HasSizes es 1 64 1 128
 unfolding elements_of sizes_of
 sized_conic (one_line e) = record { least = lit≤ tt; most = lit≤ tt; least_points = lit≤ tt; most_points = lit≤ tt }
 sized_conic {c} (quads e w) =
@@ -67,10 +67,10 @@ sized_conic {c} (quads e w) =
     record { least = omega (arith, w.some); most = omega (arith, w.few); least_points = omega (arith, w.some); most_points = omega (arith, w.few) }
 
 -- looser bounds
-sized_within : {es : List Entry} {v v' p p' : ℕ} (w w' q q' : ℕ) → Sized es v v' p p' → w ≤ v → v' ≤ w' → q ≤ p → p' ≤ q' → Sized es w w' q q'
+sized_within : {es : List Entry} {v v' p p' : ℕ} (w w' q q' : ℕ) → HasSizes es v v' p p' → w ≤ v → v' ≤ w' → q ≤ p → p' ≤ q' → HasSizes es w w' q q'
 sized_within w w' q q' h a b c d = record { least = omega (arith, h.least, a); most = omega (arith, h.most, b); least_points = omega (arith, h.least_points, c); most_points = omega (arith, h.most_points, d) }
 
-sized_corner : {p q : Point} {t : Bool} {cs : List Call} {es : List Entry} → CornerEntries p t cs es q → Sized es 2 258 2 518
+sized_corner : {p q : Point} {t : Bool} {cs : List Call} {es : List Entry} → CornerEntries p t cs es q → HasSizes es 2 258 2 518
 sized_corner (square a b) = sized_within 2 258 2 518 (sized_join (sized_line a) (sized_line b)) (lit≤ tt) (lit≤ tt) (lit≤ tt) (lit≤ tt)
 sized_corner (round c1 c2 c3 c4 a b c d e f p1 l1 p2 l2 p3 l3 p4 l4) =
     let curves = sized_join (sized_cubic a b c) (sized_join (sized_cubic d e f) (sized_join (sized_conic l3) (sized_conic l4))) in
@@ -91,10 +91,6 @@ adds_cons {p} {q} {r} {c} {cs} {es} {ds} h g = record {
   along = λ s. along_then h.passes s cs ∙ ap (λ (x : List Entry). x ++ entries_along s q cs) (h.along s) ∙ ap (λ (x : List Entry). es ++ x) (g.along s);
 }
 
-adds_none : {p : Point} → Adds p [] p []
-unfolding entries_along
-adds_none {p} = record { need = record { verbs = 0; points = 0 }; passes = passes_none p; along = λ s. refl }
-
 adds_line : {p : Point} (a : Point) → Adds p (call.LineTo a ∷ []) a (plain (Line a) ∷ [])
 unfolding entries_of
 adds_line {p} a = record { need = record { verbs = 1; points = 1 }; passes = passes_line p a; along = λ s. along_one s p (call.LineTo a) }
@@ -111,15 +107,15 @@ adds_conic c = record {
   along = λ s. along_one s c.from (call_of c);
 }
 
--- a corner: what it adds, and that this is what document 01 says
+-- a corner: what it adds, and that these are its parts
 record Turns (p : Point) (t : Bool) (cs : List Call) : Type 0 where
   end : Point
   entries : List Entry
   adds : Adds p cs end entries
-  told : CornerEntries p t cs entries end
+  parts : CornerEntries p t cs entries end
 
 turns_square : (p a b : Point) → Turns p true (call.LineTo a ∷ call.LineTo b ∷ [])
-turns_square p a b = record { end = b; entries = plain (Line a) ∷ plain (Line b) ∷ []; adds = adds_cons (adds_line a) (adds_line b); told = square a b }
+turns_square p a b = record { end = b; entries = plain (Line a) ∷ plain (Line b) ∷ []; adds = adds_cons (adds_line a) (adds_line b); parts = square a b }
 
 turns_round : (c1 c2 c3 c4 : Conic) (a b c d e f : Point) → c2.from ≡ c1.to → c3.from ≡ f → c4.from ≡ c3.to
     → Turns c1.from false (call_of c1 ∷ call_of c2 ∷ call.CubicTo a b c ∷ call.CubicTo d e f ∷ call_of c3 ∷ call_of c4 ∷ [])
@@ -131,7 +127,7 @@ turns_round c1 c2 c3 c4 a b c d e f p2 p3 p4 = record {
       let third = subst (λ (x : Point). Adds x (call_of c3 ∷ []) c3.to (lowered_of (lower_of c3))) p3 (adds_conic c3) in
       let second = subst (λ (x : Point). Adds x (call_of c2 ∷ []) c2.to (lowered_of (lower_of c2))) p2 (adds_conic c2) in
       adds_cons (adds_conic c1) (adds_cons second (adds_cons (adds_cubic a b c) (adds_cons (adds_cubic d e f) (adds_cons third last))));
-  told = round c1 c2 c3 c4 a b c d e f refl (line_or_quads c1) p2 (line_or_quads c2) p3 (line_or_quads c3) p4 (line_or_quads c4);
+  parts = round c1 c2 c3 c4 a b c d e f refl (line_or_quads c1) p2 (line_or_quads c2) p3 (line_or_quads c3) p4 (line_or_quads c4);
 }
 
 abbrev conic : Point → Point → Point → Float → Conic
@@ -161,13 +157,13 @@ turns p param reverse sign = turns_go p param reverse _ (square_corner param)
 
 record Around (p : Point) (ts : List Bool) (css : List (List Call)) (n : ℕ) : Type 0 where
   entries : List (List Entry)
-  told : CornersEntries p ts css entries
+  parts : CornersEntries p ts css entries
   along : (s : Point) → entries_along s p (flatten css) ≡ flatten entries
-  sizes : Sized (flatten entries) (2 * n) (258 * n) (2 * n) (518 * n)
+  sizes : HasSizes (flatten entries) (2 * n) (258 * n) (2 * n) (518 * n)
 
 around_none : (p : Point) → Around p [] [] 0
 unfolding entries_along flatten
-around_none p = record { entries = []; told = none; along = λ s. refl; sizes = sized_none }
+around_none p = record { entries = []; parts = none; along = λ s. refl; sizes = sized_none }
 
 around_cons : {p : Point} {t : Bool} {ts : List Bool} {cs : List Call} {css : List (List Call)} {n : ℕ} → Turns p t cs → ((q : Point) → Around q ts css n) → Around p (t ∷ ts) (cs ∷ css) (1 + n)
 unfolding flatten
@@ -175,9 +171,9 @@ around_cons {css = css} {n = n} h f =
     let g = f h.end in
     record {
       entries = h.entries ∷ g.entries;
-      told = corner h.told g.told;
+      parts = corner h.parts g.parts;
       along = λ s. along_then h.adds.passes s (flatten css) ∙ ap (λ (x : List Entry). x ++ entries_along s h.end (flatten css)) (h.adds.along s) ∙ ap (λ (x : List Entry). h.entries ++ x) (g.along s);
-      sizes = sized_within (2 * (1 + n)) (258 * (1 + n)) (2 * (1 + n)) (518 * (1 + n)) (sized_join (sized_corner h.told) g.sizes) (omega arith) (omega arith) (omega arith) (omega arith);
+      sizes = sized_within (2 * (1 + n)) (258 * (1 + n)) (2 * (1 + n)) (518 * (1 + n)) (sized_join (sized_corner h.parts) g.sizes) (omega arith) (omega arith) (omega arith) (omega arith);
     }
 
 -- four corners, whatever they are
@@ -198,11 +194,11 @@ around p shape = around_go p shape shape.all_corners_same
 
 -- ---- the outline
 
-sized_ends : (a : Point) → Sized (plain (Line a) ∷ plain Close ∷ []) 2 2 1 1
+sized_ends : (a : Point) → HasSizes (plain (Line a) ∷ plain Close ∷ []) 2 2 1 1
 unfolding elements_of sizes_of
 sized_ends a = record { least = lit≤ tt; most = lit≤ tt; least_points = lit≤ tt; most_points = lit≤ tt }
 
-sized_move : (a : Point) → Sized (plain (Move a) ∷ []) 1 1 1 1
+sized_move : (a : Point) → HasSizes (plain (Move a) ∷ []) 1 1 1 1
 unfolding elements_of sizes_of
 sized_move a = record { least = lit≤ tt; most = lit≤ tt; least_points = lit≤ tt; most_points = lit≤ tt }
 
@@ -214,15 +210,15 @@ module _ (a : Point) {ts : List Bool} {css : List (List Call)} (h : Around a ts 
   closed_whole : entries_along origin origin calls ≡ plain (Move a) ∷ flatten h.entries ++ plain (Line a) ∷ plain Close ∷ []
   closed_whole = outline_entries_lem a (flatten css) ∙ ap (λ (es : List Entry). plain (Move a) ∷ es ++ plain (Line a) ∷ plain Close ∷ []) (h.along a)
 
-  closed_sizes : Sized (entries_along origin origin calls) 11 1035 10 2074
-  closed_sizes = subst (λ (es : List Entry). Sized es 11 1035 10 2074) (sym closed_whole) (sized_join (sized_move a) (sized_join h.sizes (sized_ends a)))
+  closed_sizes : HasSizes (entries_along origin origin calls) 11 1035 10 2074
+  closed_sizes = subst (λ (es : List Entry). HasSizes es 11 1035 10 2074) (sym closed_whole) (sized_join (sized_move a) (sized_join h.sizes (sized_ends a)))
 
-pub outline_told : (shape : RoundSuperellipse) → OutlineEntries shape (outline_entries shape)
+pub outline_parts : (shape : RoundSuperellipse) → OutlineEntries shape (outline_entries shape)
 unfolding outline_entries outline_calls calls_in outline_of
-outline_told shape =
+outline_parts shape =
     let a = start_point shape.top_right in
     let h = around a shape in
-    record { corners = h.entries; drawn = h.told; whole = closed_whole a h; sizes = closed_sizes a h }
+    record { corners = h.entries; each_corner = h.parts; whole = closed_whole a h; sizes = closed_sizes a h }
 
 -- ---- whatever is drawn
 
@@ -230,10 +226,10 @@ abbrev is_square : Corner → Bool
 is_square (Square p q) = true
 is_square (Round r) = false
 
-turns_drawn : (p : Point) (c : Corner) → Turns p (is_square c) (calls_of c)
-turns_drawn p (Square a b) = turns_square p a b
-turns_drawn p (Round r) = turns_six p _ _ _ _ _ _ _ _ _ _ _ _ _ _ _ _ _ _
+turns_corner : (p : Point) (c : Corner) → Turns p (is_square c) (calls_of c)
+turns_corner p (Square a b) = turns_square p a b
+turns_corner p (Round r) = turns_six p _ _ _ _ _ _ _ _ _ _ _ _ _ _ _ _ _ _
 
-pub drawn-sizes : (o : Outline) → Sized (entries_along origin origin (calls_in (drawing_of o))) 11 1035 10 2074
+pub outline-sizes : (o : Outline) → HasSizes (entries_along origin origin (calls_in (drawing_of o))) 11 1035 10 2074
 unfolding calls_in
-drawn-sizes o = closed_sizes o.start (around_four (λ q. turns_drawn q o.corners.first) (λ q. turns_drawn q o.corners.second) (λ q. turns_drawn q o.corners.third) (λ q. turns_drawn q o.corners.fourth) o.start)
+outline-sizes o = closed_sizes o.start (around_four (λ q. turns_corner q o.corners.first) (λ q. turns_corner q o.corners.second) (λ q. turns_corner q o.corners.third) (λ q. turns_corner q o.corners.fourth) o.start)

@@ -1,5 +1,5 @@
--- What an outline adds to a path: the entries of its calls, one call after the other, each from the start and the pen that the calls before it left.
--- Definitions only.
+-- What an outline adds to a path: the entries of its calls, one call after the other, each from the start and the pen
+-- that the calls before it left. Definitions only.
 use Rattle.std.specs.Prelude.{◌≡◌, List, [], ◌∷◌, ◌++◌, false}
 use Rattle.geometry.specs.declared.Point.{Point}
 use Rattle.stream.specs.declared.Element.{Element}

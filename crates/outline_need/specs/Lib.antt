@@ -1,2 +1,3 @@
 pub mod Entries
 pub mod Parts
+pub use Rattle.stream.specs.Stream

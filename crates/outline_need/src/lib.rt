@@ -78,8 +78,10 @@ fn last_point(corner: Corner) -> Point
     }
 }
 
+/// What a drawn outline adds to a record's counts, if it is accepted.
 pub fn outline_need(o: Outline) -> Need
-    ensures { result ≡ need_of (elements_of (entries_along origin origin (calls_in (drawing_of o)))) }
+    ensures { result
+        ≡ need_of (elements_of (entries_along origin origin (calls_in (drawing_of o)))) }
 {
     let corners = o.corners;
     let first = corners.first;
@@ -98,7 +100,7 @@ pub fn outline_need(o: Outline) -> Need
     n1 + n2 + n3 + n4 + ends
 }
 
-/// What an outline adds to a record's counts, if it is accepted.
+/// What the outline of a shape adds to a record's counts, if it is accepted.
 pub fn need(shape: RoundSuperellipse) -> Need
     ensures { result ≡ need_of (elements_of (outline_entries shape)) }
 {

@@ -1,5 +1,6 @@
--- Demand 2 for lists of building calls.
+-- What the Rust's builder holds after a list of building calls.
 pub mod Mirrors
 pub mod Conics
+pub mod Outline
 pub mod Calls
 pub mod EveryList

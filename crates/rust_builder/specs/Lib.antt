@@ -1,2 +1,3 @@
 pub mod PathBuilder
+pub mod AddTo
 pub mod SameAsRust

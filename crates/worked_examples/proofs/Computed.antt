@@ -1,4 +1,4 @@
--- Document 01's samples a to j, each computed.
+-- The worked examples, each computed.
 use mathlib.Core.Path.{refl, ap}
 use lib.Ieee as Ieee
 use Rattle.ieee.specs.Basic.{abs_of}
@@ -21,24 +21,24 @@ unfoldable computing : Unit {0}
 unfolding entries_of lowered_of elements_of pieces_in sizes_of lower_of is_line halve word_of conic_mid quad_mid flat_of half_weight_of split_of add_of sub_of scale_of shrink_of length_of length_squared_of finite_point abs_of sqrt_of root_of isqrt Ieee.root_below step attempt bad_record has_room Ieee.of_bits Ieee.of_fields Ieee.lt Ieee.le Ieee.sub Ieee.add Ieee.neg Ieee.sum Ieee.round Ieee.size Ieee.units Ieee.odd Ieee.mul Ieee.div Ieee.span Ieee.climb
 computing = tt
 
-pub samples : WorkedExamples
+pub computed : WorkedExamples
 unfolding computing
-samples = record {
+computed = record {
   a = refl;
   a_word = refl;
   b = refl;
-  b-word = refl;
+  b_word = refl;
   c_verbs = refl;
   c_points = refl;
   c_word = refl;
   c_room = refl;
   c_full = refl;
   d = refl;
-  d-word = refl;
+  d_word = refl;
   e = refl;
-  e-word = refl;
+  e_word = refl;
   f = degree_at_5;
-  f-row = last-row-at_5;
+  f_row = last-row-at_5;
   f_first = degree_at_2½;
   g = weight_at_3;
   h = λ p. ap (λ (o : Octant). o.se_n) (sharp p);

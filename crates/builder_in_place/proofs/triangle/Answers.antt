@@ -6,7 +6,7 @@ use Rattle.stream.specs.Stream.{State, state}
 use Rattle.calls.specs.declared.Call.{Call}
 use Rattle.calls.specs.declared.Call.TheVariants.{MoveTo, LineTo, Close}
 use Rattle.calls.specs.Calls.{Outcome, outcome, step}
-use Rattle.book.specs.Simulation.{run, answers}
+use Rattle.book.specs.Machine.{run, answers}
 use Rattle.book.specs.Book.{reply, builder_machine}
 use Rattle.builder_in_place.specs.Triangle.{Trace, sides, trace_of}
 use Rattle.builder_in_place.proofs.triangle.Goals as goal

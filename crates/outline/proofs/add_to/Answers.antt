@@ -1,7 +1,7 @@
 use mathlib.Core.Path.{refl}
 use Rattle.std.proofs.Common.{rules}
 use Rattle.stream.specs.Stream.{State, state}
-use Rattle.outline.proofs.Outlined.{outline_refused, outline_admitted, outline_room, outline_done}
+use Rattle.outline.proofs.OutlineCall.{outline_refused, outline_admitted, outline_room, outline_done}
 use Rattle.outline.proofs.add_to.Goals as goal
 
 pub returns-in_err-admit_outline : goal.returns-in_err-admit_outline

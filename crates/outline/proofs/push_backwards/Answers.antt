@@ -1,55 +1,44 @@
 use mathlib.Core.Path.{refl}
-use mathlib.Core.List.{[], ◌∷◌, ◌++◌}
 use Rattle.stream.specs.declared.Element.TheVariants.{Cubic}
-use Rattle.stream.specs.Stream.{State, state}
+use Rattle.stream.specs.Stream.{state}
 use Rattle.calls.specs.Calls.{entries_of}
-use Rattle.outline_corners.specs.Calls.{conic_call, cubic_call}
-use Rattle.outline_need.proofs.Along.{room_first, room-rest, calls_join}
-use Rattle.outline.proofs.Pushed.{room-plain, calls_plain}
+use Rattle.outline_corners.specs.Calls.{cubic_call}
+use Rattle.outline_need.proofs.Along.{room_first}
+use Rattle.outline.proofs.Pushed.{room-plain, leads, leads-plain, leads-then, room-then}
 use Rattle.outline.proofs.push_backwards.Goals as goal
 
 pub push-b1-requires : goal.push-b1-requires
 unfolding entries_of
 push-b1-requires c =
     let a = c.args in
-    let s : State = state a.b a.verbs.now a.points.now in
-    let h = c.requires in
-    room-plain s (cubic_call a.o.circle) (Cubic a.o.circle.c0 a.o.circle.c1 a.o.circle.to) refl (room_first s (cubic_call a.o.circle ∷ []) (conic_call a.o.second ∷ [] ++ (conic_call a.o.first ∷ [])) h)
+    let o = a.o.circle in
+    let s = state a.b a.verbs.now a.points.now in
+    room-plain s (cubic_call o) (Cubic o.c0 o.c1 o.to) refl (room_first s _ _ c.requires)
 
 pub push_conic-b2-requires : goal.push_conic-b2-requires
 unfolding entries_of
 push_conic-b2-requires c =
-    let a = c.args in
-    let s : State = state a.b a.verbs.now a.points.now in
+    let o = c.args.o.circle in
     let r1 = c.push-b1 in
-    let t1 : State = state r1.result r1.new.verbs r1.new.points in
-    let h = c.requires in
-    let h1 = room-rest s t1 (cubic_call a.o.circle ∷ []) (conic_call a.o.second ∷ [] ++ (conic_call a.o.first ∷ [])) (calls_plain s (cubic_call a.o.circle) (Cubic a.o.circle.c0 a.o.circle.c1 a.o.circle.to) refl t1 r1.ensures) r1.auto.verbs r1.auto.points h in
-    room_first t1 (conic_call a.o.second ∷ []) (conic_call a.o.first ∷ []) h1
+    let p1 = leads-plain (cubic_call o) (Cubic o.c0 o.c1 o.to) refl r1.ensures r1.auto.verbs r1.auto.points in
+    room_first (state r1.result r1.new.verbs r1.new.points) _ _ (room-then _ p1 c.requires)
 
 pub push_conic-requires : goal.push_conic-requires
 unfolding entries_of
 push_conic-requires c =
-    let a = c.args in
-    let s : State = state a.b a.verbs.now a.points.now in
+    let o = c.args.o.circle in
     let r1 = c.push-b1 in
-    let t1 : State = state r1.result r1.new.verbs r1.new.points in
     let r2 = c.push_conic-b2 in
-    let t2 : State = state r2.result r2.new.verbs r2.new.points in
-    let h = c.requires in
-    let h1 = room-rest s t1 (cubic_call a.o.circle ∷ []) (conic_call a.o.second ∷ [] ++ (conic_call a.o.first ∷ [])) (calls_plain s (cubic_call a.o.circle) (Cubic a.o.circle.c0 a.o.circle.c1 a.o.circle.to) refl t1 r1.ensures) r1.auto.verbs r1.auto.points h in
-    let h2 = room-rest t1 t2 (conic_call a.o.second ∷ []) (conic_call a.o.first ∷ []) r2.ensures r2.auto.verbs r2.auto.points h1 in
-    h2
+    let p1 = leads-plain (cubic_call o) (Cubic o.c0 o.c1 o.to) refl r1.ensures r1.auto.verbs r1.auto.points in
+    room-then _ (leads r2.ensures r2.auto.verbs r2.auto.points) (room-then _ p1 c.requires)
 
 pub returns : goal.returns
 unfolding entries_of
 returns c =
-    let a = c.args in
-    let s : State = state a.b a.verbs.now a.points.now in
+    let o = c.args.o.circle in
     let r1 = c.push-b1 in
-    let t1 : State = state r1.result r1.new.verbs r1.new.points in
     let r2 = c.push_conic-b2 in
-    let t2 : State = state r2.result r2.new.verbs r2.new.points in
     let r3 = c.push_conic in
-    let t3 : State = state r3.result r3.new.verbs r3.new.points in
-    calls_join s t1 t3 (cubic_call a.o.circle ∷ []) (conic_call a.o.second ∷ [] ++ (conic_call a.o.first ∷ [])) (calls_plain s (cubic_call a.o.circle) (Cubic a.o.circle.c0 a.o.circle.c1 a.o.circle.to) refl t1 r1.ensures) (calls_join t1 t2 t3 (conic_call a.o.second ∷ []) (conic_call a.o.first ∷ []) r2.ensures r3.ensures)
+    let p1 = leads-plain (cubic_call o) (Cubic o.c0 o.c1 o.to) refl r1.ensures r1.auto.verbs r1.auto.points in
+    let p2 = leads r2.ensures r2.auto.verbs r2.auto.points in
+    (leads-then p1 (leads-then p2 (leads r3.ensures r3.auto.verbs r3.auto.points))).is
