@@ -105,18 +105,6 @@ fn both_curves(
     }
 }
 
-// The curves of an octant.
-#[tactic(auto, unfolding(crate::specs::Corners::curves_of))]
-fn curves_of(param: Octant) -> Curves
-    ensures { result ≡ curves_of param }
-{
-    let [conics] = octant_curves::conics([param]);
-    Curves {
-        circle: octant_curves::circular_arc_points(param),
-        conics,
-    }
-}
-
 // The curves of a corner's octants, batched.
 #[tactic(auto, unfolding(crate::specs::Corners::curves_of))]
 fn solve(top: Octant, right: Octant) -> BothCurves
@@ -128,6 +116,22 @@ fn solve(top: Octant, right: Octant) -> BothCurves
     both_curves(top_circle, right_circle, top_conics, right_conics)
 }
 
+// The same of a corner that is drawn by itself, beside a square one: the arcs one by one.
+#[tactic(auto, unfolding(crate::specs::Corners::curves_of))]
+fn solve_apart(top: Octant, right: Octant) -> BothCurves
+    ensures top { result.top ≡ curves_of top }
+    ensures right { result.right ≡ curves_of right }
+{
+    let [top_conics, right_conics] = octant_curves::conics([top, right]);
+    both_curves(
+        octant_curves::circular_arc_points(top),
+        octant_curves::circular_arc_points(right),
+        top_conics,
+        right_conics,
+    )
+}
+
+// Where an octant is placed.
 fn placement(param: Octant, offset: Point, scale: Point, flip: bool) -> Placement
     ensures { result ≡ placement_of param offset scale flip }
 {
@@ -246,13 +250,10 @@ fn draw_corner(param: Quadrant, reverse: bool, scale_sign: Point) -> Corner
     if param.is_square() {
         return square_corner(param, reverse, scale);
     }
-    round_corner(
-        param,
-        curves_of(param.top),
-        curves_of(param.right),
-        reverse,
-        scale,
-    )
+    let curves = solve_apart(param.top, param.right);
+    let top = curves.top;
+    let right = curves.right;
+    round_corner(param, top, right, reverse, scale)
 }
 
 // One quadrant, drawn four ways.

@@ -8,4 +8,4 @@ returns-then-is_square c = rw (← c.mul-scale.ensures, ← c.is_square.ensures,
 
 pub returns : goal.returns
 unfolding corner_calls
-returns c = rw (← c.mul-scale.ensures, ← c.is_square.ensures, c.if-is_square.false, round_calls-is, ← c.curves_of.ensures, ← c.curves_of-2.ensures, ← c.round_corner.ensures)
+returns c = rw (← c.mul-scale.ensures, ← c.is_square.ensures, c.if-is_square.false, round_calls-is, ← c.solve_apart-curves.ensures.top, ← c.solve_apart-curves.ensures.right, ← c.round_corner.ensures)
