@@ -16,7 +16,6 @@ pub struct PanelFile<'a> {
 
 impl<'a> PanelFile<'a> {
     ghost use Rattle.panel_file.specs.File.{records, new_answer, records_left};
-    ghost use Rattle.panel_file.specs.Panel.{touches_of};
 
     /// The bytes as a panel file, if they are a good one.
     pub fn new(bytes: &'a [u8]) -> Result<PanelFile<'a>, Broken>

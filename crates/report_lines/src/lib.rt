@@ -7,7 +7,6 @@ ghost use Rattle.io.specs.Counts.{IsPrefixLen};
 ghost use Rattle.panel_file.specs.declared.Counts.{Counts};
 ghost use Rattle.panel_file.specs.declared.Record.{Record};
 ghost use Rattle.panel_file.specs.File.{records};
-ghost use Rattle.text.specs.Written.{decimal_text};
 ghost use Rattle.report_lines.specs.declared.Line.{Line};
 ghost use Rattle.report_lines.specs.Line.{Added, newline, number_then, line_of};
 ghost use Rattle.report_lines.specs.Text.{text_of, Over};
