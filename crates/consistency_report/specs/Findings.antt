@@ -1,4 +1,5 @@
--- The program `inspect`: of each button of a panel file, whether its outline and its touch area keep together. Definitions only.
+-- The program `inspect`: of each button of a panel file, whether its outline and its touch area are consistent.
+-- Definitions only.
 use Rattle.std.specs.Prelude.{ℕ, ◌+◌, List, [], ◌∷◌, Option, Some, None, if◌then◌else◌}
 use Rattle.panel_file.specs.declared.Button.{Button}
 use Rattle.panel_file.specs.declared.Counts.{Counts}
@@ -27,16 +28,16 @@ unfoldable pub finding_at : Counts → Record → Option Line
 finding_at c (ButtonRecord b) = Some (finding c.buttons b)
 finding_at c (TouchRecord p) = None
 
--- The lines of some records, the first button's index being the one given.
+-- the lines of some records, the first button's index being the one given
 unfoldable pub findings_of : ℕ → List Record → List Line
 findings_of index [] = []
 findings_of index (ButtonRecord b ∷ rs) = finding index b ∷ findings_of (index + 1) rs
 findings_of index (TouchRecord p ∷ rs) = findings_of index rs
 
--- The lines of a good file's buttons; of a broken file only the cause's number and the offset.
-unfoldable pub inspected : Answer (List Record) → List Line
-inspected (done rs) = findings_of 0 rs
-inspected (refused cause offset) = Broken cause offset ∷ []
+-- the lines of a good file's buttons; of a broken file only the refusal's number and the offset
+unfoldable pub lines_of_answer : Answer (List Record) → List Line
+lines_of_answer (done rs) = findings_of 0 rs
+lines_of_answer (refused cause offset) = Broken cause offset ∷ []
 
 unfoldable pub inspection_of : List ℕ → List Line
-inspection_of file = inspected (records_of file)
+inspection_of file = lines_of_answer (records_of file)

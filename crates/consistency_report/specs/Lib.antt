@@ -1,1 +1,2 @@
 pub mod Findings
+pub use Rattle.report_lines.specs.Text

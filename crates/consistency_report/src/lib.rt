@@ -1,5 +1,5 @@
-//! The report of the program `inspect` on a panel file, whole: of each button, whether its outline and
-//! its touch area keep together.
+//! The report of the program `inspect` on a panel file (docs/SPECIFICATION.md, "Consistency"): of each button,
+//! whether its outline and its touch area are consistent.
 
 #![tactic(auto)]
 

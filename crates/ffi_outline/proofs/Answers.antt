@@ -18,14 +18,14 @@ use Rattle.outline_need.specs.Entries.{outline_entries}
 use Rattle.ffi_shape.specs.Layout.{shape_at}
 use Rattle.ffi_path.specs.Lent.{record_in, PathAnswer, path_answer}
 use Rattle.ffi_path.proofs.Lending.{record_is, no_record}
-use Rattle.ffi_outline.specs.Outlines.{outlined, add_of, needed, numbers_of, outline_need_of, conic_need_of}
+use Rattle.ffi_outline.specs.Outlines.{outline_left, add_of, needed, numbers_of, outline_need_of, conic_need_of}
 
 module _ (shape : List Float) (counts : List ℕ) (places : List Float) (vs : List ℕ) (fs : List Float) where
   pub no_shape : (length shape ≡ 89 → ⊥) → path_answer 100 counts places vs fs ≡ add_of shape counts places vs fs
   unfolding add_of
   no_shape h = rw (ne_eqb (length shape) 89 h)
 
-  pub drawn : (l : PathAnswer) → length shape ≡ 89 → l ≡ outlined shape counts places vs fs → l ≡ add_of shape counts places vs fs
+  pub drawn : (l : PathAnswer) → length shape ≡ 89 → l ≡ outline_left shape counts places vs fs → l ≡ add_of shape counts places vs fs
   unfolding add_of
   drawn l e h = h ∙ rw (eq-eqb (length shape) 89 e)
 

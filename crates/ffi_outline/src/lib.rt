@@ -1,5 +1,5 @@
 //! Outlines for programs in C and Rust: drawing one, what an outline or a conic needs, and whether the
-//! outline and the touch area of a shape keep together. Shapes stand in 89 floats that the caller lends,
+//! outline and the touch area of a shape are consistent. Shapes stand in 89 floats that the caller lends,
 //! records in three whole numbers and four floats.
 
 #![tactic(auto)]
@@ -26,7 +26,8 @@ pub fn shackletongue_add_to(
     verbs: &mut [u8],
     points: &mut [f32],
 ) -> u32
-    ensures { path_answer result counts.new places.new verbs.new points.new ≡ add_of shape.now counts.old places.old verbs.old points.old }
+    ensures { path_answer result counts.new places.new verbs.new points.new
+        ≡ add_of shape.now counts.old places.old verbs.old points.old }
 {
     let Some(shape) = shape.as_array::<SHAPE_LENGTH>() else {
         return WRONG_LENGTH;
@@ -71,7 +72,8 @@ pub fn shackletongue_conic_need(
     weight: f32,
     need: &mut [u64],
 ) -> u32
-    ensures { needed result need.new ≡ conic_need_of counts.now places.now (point cx cy) (point x y) weight need.old }
+    ensures { needed result need.new
+        ≡ conic_need_of counts.now places.now (point cx cy) (point x y) weight need.old }
 {
     if need.len() != NEED_LENGTH {
         return WRONG_LENGTH;

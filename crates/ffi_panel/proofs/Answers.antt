@@ -8,85 +8,84 @@ use lib.Ieee.{Float}
 use Rattle.geometry.specs.declared.Point.{Point}
 use Rattle.panel_file.specs.declared.Record.{Record}
 use Rattle.panel_file.specs.declared.Broken.{Broken}
-use Rattle.panel_file.specs.Panel.{record_at, read_of}
-use Rattle.touch.specs.Touch.{touch_of, placed_of, touched_of, count_of, touch_all_of}
-use Rattle.touch.specs.Touch.{left as all_left}
+use Rattle.panel_file.specs.Panel.{record_at, record_answer}
+use Rattle.touch.specs.Touch.{touch_of, place_of_index, touch_answer, count_answer, results_left, touch_all_of}
 use Rattle.std.proofs.Common.{Option, Some, None, Result, Ok, Err}
-use Rattle.ffi_panel.specs.Asking.{answered, left, kind_number, record_floats, record_left, record_of, place_left, place_of_touch, count_left, places_of_touches}
+use Rattle.ffi_panel.specs.Asking.{place_left, slices_left, kind_number, record_floats, record_left, record_of, touch_left, place_of_touch, count_left, places_of_touches}
 use Rattle.ffi_panel.proofs.Storing.{one_set, two-set}
 
 -- ---- a record
 
 module _ (file place : List ℕ) (fs : List Float) where
-  pub record_no_place : (length place ≡ 2 → ⊥) → left 100 place fs ≡ record_of file place fs
+  pub record_no_place : (length place ≡ 2 → ⊥) → slices_left 100 place fs ≡ record_of file place fs
   unfolding record_of
   record_no_place h = rw (ne_eqb (length place) 2 h)
 
-  pub record_no_floats : length place ≡ 2 → (length fs ≡ 12 → ⊥) → left 100 place fs ≡ record_of file place fs
+  pub record_no_floats : length place ≡ 2 → (length fs ≡ 12 → ⊥) → slices_left 100 place fs ≡ record_of file place fs
   unfolding record_of
   record_no_floats e h = rw (eq-eqb (length place) 2 e, ne_eqb (length fs) 12 h)
 
-  module _ (x : Result (Option (Record × ℕ)) Broken) (two : length place ≡ 2) (twelve : length fs ≡ 12) (told : read_of x ≡ record_at file (get_or place 0 0)) where
-    record_told : record_of file place fs ≡ record_left (read_of x) place fs
+  module _ (x : Result (Option (Record × ℕ)) Broken) (two : length place ≡ 2) (twelve : length fs ≡ 12) (answer : record_answer x ≡ record_at file (get_or place 0 0)) where
+    record_of_answer : record_of file place fs ≡ record_left (record_answer x) place fs
     unfolding record_of
-    record_told = rw (eq-eqb (length place) 2 two, eq-eqb (length fs) 12 twelve, told)
+    record_of_answer = rw (eq-eqb (length place) 2 two, eq-eqb (length fs) 12 twelve, answer)
 
-    pub record_read : (r : Record) (next k : ℕ) (gs : List Float) → x ≡ Ok (Some (r, next)) → k ≡ kind_number r → gs ≡ record_floats r fs → left 0 (set (set place 0 next) 1 k) gs ≡ record_of file place fs
-    unfolding record_left read_of
-    record_read r next k gs e f g = rw (record_told, e, f, g, two-set place next (kind_number r) two)
+    pub record_read : (r : Record) (next k : ℕ) (gs : List Float) → x ≡ Ok (Some (r, next)) → k ≡ kind_number r → gs ≡ record_floats r fs → slices_left 0 (set (set place 0 next) 1 k) gs ≡ record_of file place fs
+    unfolding record_left record_answer
+    record_read r next k gs e f g = rw (record_of_answer, e, f, g, two-set place next (kind_number r) two)
 
-    pub record_end : x ≡ Ok None → left 0 (set place 1 0) fs ≡ record_of file place fs
-    unfolding record_left read_of
-    record_end e = rw (record_told, e)
+    pub record_end : x ≡ Ok None → slices_left 0 (set place 1 0) fs ≡ record_of file place fs
+    unfolding record_left record_answer
+    record_end e = rw (record_of_answer, e)
 
-    pub record_broken : (b : Broken) → x ≡ Err b → left 7 (set place 0 b.offset) fs ≡ record_of file place fs
-    unfolding record_left read_of
-    record_broken b e = rw (record_told, e)
+    pub record_broken : (b : Broken) → x ≡ Err b → slices_left 7 (set place 0 b.offset) fs ≡ record_of file place fs
+    unfolding record_left record_answer
+    record_broken b e = rw (record_of_answer, e)
 
 -- ---- a touch
 
 module _ (file : List ℕ) (p : Point) (place : List ℕ) where
-  pub touch_no_place : (length place ≡ 1 → ⊥) → answered 100 place ≡ place_of_touch file p place
+  pub touch_no_place : (length place ≡ 1 → ⊥) → place_left 100 place ≡ place_of_touch file p place
   unfolding place_of_touch
   touch_no_place h = rw (ne_eqb (length place) 1 h)
 
-  module _ (x : Result (Option ℕ) Broken) (one : length place ≡ 1) (told : touched_of x ≡ touch_of file p) where
-    touch-told : place_of_touch file p place ≡ place_left (touched_of x) place
+  module _ (x : Result (Option ℕ) Broken) (one : length place ≡ 1) (answer : touch_answer x ≡ touch_of file p) where
+    touch_of_answer : place_of_touch file p place ≡ touch_left (touch_answer x) place
     unfolding place_of_touch
-    touch-told = rw (eq-eqb (length place) 1 one, told)
+    touch_of_answer = rw (eq-eqb (length place) 1 one, answer)
 
-    pub touch-taken : (i : ℕ) → x ≡ Ok (Some i) → answered 0 (set place 0 i) ≡ place_of_touch file p place
-    unfolding place_left touched_of placed_of
-    touch-taken i e = rw (touch-told, e, one_set place i one)
+    pub touch-taken : (i : ℕ) → x ≡ Ok (Some i) → place_left 0 (set place 0 i) ≡ place_of_touch file p place
+    unfolding touch_left touch_answer place_of_index
+    touch-taken i e = rw (touch_of_answer, e, one_set place i one)
 
-    pub touch-nowhere : x ≡ Ok None → answered 101 place ≡ place_of_touch file p place
-    unfolding place_left touched_of placed_of
-    touch-nowhere e = rw (touch-told, e)
+    pub touch-nowhere : x ≡ Ok None → place_left 101 place ≡ place_of_touch file p place
+    unfolding touch_left touch_answer place_of_index
+    touch-nowhere e = rw (touch_of_answer, e)
 
-    pub touch-broken : (b : Broken) → x ≡ Err b → answered 7 (set place 0 b.offset) ≡ place_of_touch file p place
-    unfolding place_left touched_of placed_of
-    touch-broken b e = rw (touch-told, e, one_set place b.offset one)
+    pub touch-broken : (b : Broken) → x ≡ Err b → place_left 7 (set place 0 b.offset) ≡ place_of_touch file p place
+    unfolding touch_left touch_answer place_of_index
+    touch-broken b e = rw (touch_of_answer, e, one_set place b.offset one)
 
 -- ---- all touches
 
 module _ (file results place : List ℕ) where
-  pub all_no_results : (length results ≡ 5461 → ⊥) → left 100 place results ≡ places_of_touches file results place
+  pub all_no_results : (length results ≡ 5461 → ⊥) → slices_left 100 place results ≡ places_of_touches file results place
   unfolding places_of_touches
   all_no_results h = rw (ne_eqb (length results) 5461 h)
 
-  pub all_no_place : length results ≡ 5461 → (length place ≡ 1 → ⊥) → left 100 place results ≡ places_of_touches file results place
+  pub all_no_place : length results ≡ 5461 → (length place ≡ 1 → ⊥) → slices_left 100 place results ≡ places_of_touches file results place
   unfolding places_of_touches
   all_no_place e h = rw (eq-eqb (length results) 5461 e, ne_eqb (length place) 1 h)
 
-  module _ (after : List ℕ) (x : Result ℕ Broken) (told : all_left (count_of x) after ≡ touch_all_of file results) (room : length results ≡ 5461) (one : length place ≡ 1) where
-    all_told : places_of_touches file results place ≡ count_left (all_left (count_of x) after)
+  module _ (after : List ℕ) (x : Result ℕ Broken) (answer : results_left (count_answer x) after ≡ touch_all_of file results) (room : length results ≡ 5461) (one : length place ≡ 1) where
+    all_of_answer : places_of_touches file results place ≡ count_left (results_left (count_answer x) after)
     unfolding places_of_touches
-    all_told = rw (eq-eqb (length results) 5461 room, eq-eqb (length place) 1 one, told)
+    all_of_answer = rw (eq-eqb (length results) 5461 room, eq-eqb (length place) 1 one, answer)
 
-    pub all_done : (n : ℕ) → x ≡ Ok n → left 0 (set place 0 n) after ≡ places_of_touches file results place
-    unfolding count_left count_of
-    all_done n e = rw (all_told, e, one_set place n one)
+    pub all_done : (n : ℕ) → x ≡ Ok n → slices_left 0 (set place 0 n) after ≡ places_of_touches file results place
+    unfolding count_left count_answer
+    all_done n e = rw (all_of_answer, e, one_set place n one)
 
-    pub all_broken : (b : Broken) → x ≡ Err b → left 7 (set place 0 b.offset) after ≡ places_of_touches file results place
-    unfolding count_left count_of
-    all_broken b e = rw (all_told, e, one_set place b.offset one)
+    pub all_broken : (b : Broken) → x ≡ Err b → slices_left 7 (set place 0 b.offset) after ≡ places_of_touches file results place
+    unfolding count_left count_answer
+    all_broken b e = rw (all_of_answer, e, one_set place b.offset one)

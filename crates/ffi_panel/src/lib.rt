@@ -5,7 +5,7 @@
 
 ghost use Rattle.std.specs.Prelude.{◌≡◌, length};
 ghost use Rattle.octant.specs.Octant.{point};
-ghost use Rattle.ffi_panel.specs.Asking.{answered, left, kind_number, record_floats, record_of, place_of_touch, places_of_touches};
+ghost use Rattle.ffi_panel.specs.Asking.{place_left, slices_left, kind_number, record_floats, record_of, place_of_touch, places_of_touches};
 
 use ffi_floats::{NONE, WRONG_LENGTH};
 use geometry::Point;
@@ -56,7 +56,7 @@ fn store_record(floats: &mut [f32], record: Record) -> u64
 /// 2 touch, 0 at the end of the file; its 12 or 2 floats go to the front of floats. With a 7,
 /// place[0] is the offset of the first broken record.
 pub fn shackletongue_record(file: &[u8], place: &mut [u64], floats: &mut [f32]) -> u32
-    ensures { left result place.new floats.new ≡ record_of file.now place.old floats.old }
+    ensures { slices_left result place.new floats.new ≡ record_of file.now place.old floats.old }
 {
     if place.len() != RECORD_PLACE {
         return WRONG_LENGTH;
@@ -84,7 +84,7 @@ pub fn shackletongue_record(file: &[u8], place: &mut [u64], floats: &mut [f32]) 
 /// The index of the first button that contains the point goes to place[0]. 101 where the touch goes
 /// nowhere; with a 7, place[0] is the offset of the first broken record.
 pub fn shackletongue_touch(file: &[u8], x: f32, y: f32, place: &mut [u64]) -> u32
-    ensures { answered result place.new ≡ place_of_touch file.now (point x y) place.old }
+    ensures { place_left result place.new ≡ place_of_touch file.now (point x y) place.old }
 {
     if place.len() != TOUCH_PLACE {
         return WRONG_LENGTH;
@@ -106,7 +106,8 @@ pub fn shackletongue_touch(file: &[u8], x: f32, y: f32, place: &mut [u64]) -> u3
 /// go to the front of the 5,461 results, 0xffffffff for nowhere, and how many there are to place[0]. With
 /// a 7, place[0] is the offset of the first broken record.
 pub fn shackletongue_touch_all(file: &[u8], results: &mut [u32], place: &mut [u64]) -> u32
-    ensures { left result place.new results.new ≡ places_of_touches file.now results.old place.old }
+    ensures { slices_left result place.new results.new
+        ≡ places_of_touches file.now results.old place.old }
 {
     let Some(results) = results.as_mut_array::<MOST_TOUCHES>() else {
         return WRONG_LENGTH;

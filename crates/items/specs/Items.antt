@@ -1,5 +1,6 @@
--- What a line of the program replay's input asks for (docs/REPLAY.md). A line is the list of its bytes. Definitions only.
-use Rattle.std.specs.Prelude.{ℕ, Bool, true, List, length, get_or, nat_le, nat_lt, Float, Option, Some, None, Result, Ok, Err, if◌then◌else◌, ◌==◌, codes}
+-- What a line of the input of replay_paths asks for (docs/REPLAY.md). A line is the list of its bytes. Definitions
+-- only.
+use Rattle.std.specs.Prelude.{ℕ, Bool, ◌||◌, List, length, get_or, nat_le, nat_lt, Float, Option, Some, None, Result, Ok, Err, if◌then◌else◌, ◌==◌, codes}
 use Rattle.std.specs.Float.{nan}
 use Rattle.std.specs.Str.{bytes_eq}
 use Rattle.geometry.specs.declared.Point.{Point}
@@ -11,11 +12,11 @@ use Rattle.items.specs.declared.BadLine.{BadLine}
 use Rattle.items.specs.declared.Item.{Item}
 use Rattle.items.specs.declared.Item.TheVariants.{Buffers, Build, Outline, Record, Raw, Verbs, Floats, At, Box, Contains}
 
--- what is told of a line that asks for nothing that there is
+-- what is said of a line that asks for nothing that there is
 abbrev pub bad_line_text : List ℕ
 bad_line_text = codes "bad line"
 
--- ---- the names, in ASCII
+-- ---- the names
 
 abbrev pub buffers_text : List ℕ
 buffers_text = codes "buffers"
@@ -64,6 +65,7 @@ contains_text = codes "contains"
 
 -- ---- a line behind its name
 
+-- whether a line has a word
 unfoldable pub has_words : List ℕ → Bool
 has_words s = nat_lt 0 (length (first_word s))
 
@@ -79,7 +81,10 @@ counts_of s = pair_of (number_of 10 (first_word s)) (number_of 10 (first_word (a
 
 -- `buffers V F`, `raw V P`, else `cursor V P`
 unfoldable pub from_counts : List ℕ → Option (ℕ × ℕ) → Option Item
-from_counts name (Some (a, b)) = if bytes_eq name buffers_text then Some (Buffers a b) else (if bytes_eq name raw_text then Some (Raw a b) else Some (At record { verb = a; point = b }))
+from_counts name (Some (a, b)) =
+    if bytes_eq name buffers_text then Some (Buffers a b)
+    else (if bytes_eq name raw_text then Some (Raw a b)
+    else Some (At record { verb = a; point = b }))
 from_counts name None = None
 
 unfoldable pub of_counts : List ℕ → List ℕ → Option Item
@@ -87,7 +92,10 @@ of_counts name s = if has_words (after_word (after_word s)) then None else from_
 
 -- `record V P`, start, pen
 unfoldable pub from_record : Option (List Float) → Option (ℕ × ℕ) → Option Item
-from_record (Some x) (Some (v, p)) = if length x == 4 then Some (Record record { verbs = v; points = p; start = point_at x 0; pen = point_at x 2 }) else None
+from_record (Some x) (Some (v, p)) =
+    if length x == 4
+    then Some (Record record { verbs = v; points = p; start = point_at x 0; pen = point_at x 2 })
+    else None
 from_record (Some x) None = None
 from_record None counts = None
 
@@ -96,11 +104,17 @@ of_record s = from_record (operands_of (after_word (after_word s))) (counts_of s
 
 -- `close` and `box`
 unfoldable pub of_name : List ℕ → Option Item
-of_name name = if bytes_eq name close_text then Some (Build Close) else (if bytes_eq name box_text then Some Box else None)
+of_name name =
+    if bytes_eq name close_text then Some (Build Close)
+    else (if bytes_eq name box_text then Some Box
+    else None)
 
 -- `move x y` and `line x y`
 unfoldable pub of_two : List ℕ → Point → Option Item
-of_two name p = if bytes_eq name move_text then Some (Build (MoveTo p)) else (if bytes_eq name line_text then Some (Build (LineTo p)) else None)
+of_two name p =
+    if bytes_eq name move_text then Some (Build (MoveTo p))
+    else (if bytes_eq name line_text then Some (Build (LineTo p))
+    else None)
 
 -- `quad` with 4 floats, `conic` with 5, else `cubic`
 unfoldable pub of_four : List ℕ → List Float → Option Item
@@ -108,14 +122,17 @@ of_four name x =
     let p = point_at x 0 in
     let q = point_at x 2 in
     if length x == 4 then (if bytes_eq name quad_text then Some (Build (QuadTo p q)) else None)
-    else (if length x == 5 then (if bytes_eq name conic_text then Some (Build (ConicTo p q (get_or x 4 nan))) else None)
+    else (if length x == 5
+    then (if bytes_eq name conic_text then Some (Build (ConicTo p q (get_or x 4 nan))) else None)
     else (if bytes_eq name cubic_text then Some (Build (CubicTo p q (point_at x 4))) else None))
 
 -- `outline` with 12 floats, `contains` with 14
 unfoldable pub of_shape : List ℕ → List Float → Option Item
 of_shape name x =
     if length x == 12 then (if bytes_eq name outline_text then Some (Outline (bounds_of x) (radii_of x)) else None)
-    else (if length x == 14 then (if bytes_eq name contains_text then Some (Contains (bounds_of x) (radii_of x) (point_at x 12)) else None) else None)
+    else (if length x == 14
+    then (if bytes_eq name contains_text then Some (Contains (bounds_of x) (radii_of x) (point_at x 12)) else None)
+    else None)
 
 -- by the number of the floats
 unfoldable pub of_floats : List ℕ → List Float → Option Item
@@ -129,7 +146,7 @@ from_floats name (Some x) = of_floats name x
 from_floats name None = None
 
 unfoldable pub has_counts : List ℕ → Bool
-has_counts name = if bytes_eq name buffers_text then true else (if bytes_eq name raw_text then true else bytes_eq name cursor_text)
+has_counts name = bytes_eq name buffers_text || bytes_eq name raw_text || bytes_eq name cursor_text
 
 unfoldable pub of_words : List ℕ → List ℕ → Option Item
 of_words name s =
@@ -141,9 +158,9 @@ of_words name s =
 
 -- ---- a whole line
 
-unfoldable pub asked : Option Item → Result (Option Item) BadLine
-asked (Some item) = Ok (Some item)
-asked None = Err record {}
+unfoldable pub item_or_bad_line : Option Item → Result (Option Item) BadLine
+item_or_bad_line (Some item) = Ok (Some item)
+item_or_bad_line None = Err record {}
 
 unfoldable pub item_of : List ℕ → Result (Option Item) BadLine
-item_of line = if has_words line then asked (of_words (first_word line) (after_word line)) else Ok None
+item_of line = if has_words line then item_or_bad_line (of_words (first_word line) (after_word line)) else Ok None

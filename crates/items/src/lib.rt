@@ -1,4 +1,4 @@
-//! What a line of the program replay's input asks for (docs/REPLAY.md).
+//! What a line of the input of replay_paths asks for (docs/REPLAY.md).
 
 #![tactic(auto)]
 
@@ -14,18 +14,28 @@ use shape::{Bounds, CornerRadii};
 use std::{error, fmt};
 use stream::Builder;
 
+/// What a line asks for.
 #[derive(Drop)]
 pub enum Item {
+    /// A list begins, in buffers of so many verbs and floats.
     Buffers(usize, usize),
+    /// A building call.
     Build(BuildingCall),
+    /// The outline of a shape.
     Outline(Bounds, CornerRadii),
+    /// This record in place of the list's.
     Record(Builder),
+    /// A stream begins, whose record has so many verbs and points.
     Raw(usize, usize),
-    // The bytes or floats are read from the line where they go.
+    /// Verbs of the stream, which are read from the line where they go.
     Verbs,
+    /// Floats of the stream, likewise.
     Floats,
+    /// The segment at a cursor.
     At(Cursor),
+    /// The path's box.
     Box,
+    /// Whether a shape contains a point.
     Contains(Bounds, CornerRadii, Point),
 }
 
@@ -115,8 +125,8 @@ fn of_name(name: &[u8]) -> Option<Item>
     }
 }
 
-// A name with a point, with up to three, and with a shape. Where a length is told apart too, names stay
-// compared by `==`: a `match` on the name within one on the length was tried, and its proof did not close.
+// A name with a point, with up to three, and with a shape. Where a length is compared too, so are names, by `==`: a
+// `match` on the name within one on the length was tried, and its proof did not close.
 #[tactic(auto, unfolding(crate::specs::Items::of_two))]
 fn of_two(name: &[u8], p: Point) -> Option<Item>
     ensures { result ≡ of_two name.now p }
@@ -178,8 +188,8 @@ fn of_floats(name: &[u8], x: &[f32]) -> Option<Item>
     }
 }
 
-// Names compared by `==`, here and in `of_words`: a `match` on the name was tried, and its proof did not close for the names
-// of six and of seven bytes.
+// Names compared by `==`, here and in `of_words`: a `match` on the name was tried, and its proof did not close for the
+// names of six and of seven bytes.
 #[tactic(auto, unfolding(crate::specs::Items::has_counts))]
 fn has_counts(name: &[u8]) -> bool
     ensures { result ≡ has_counts name.now }
@@ -221,7 +231,8 @@ fn of_words(name: &[u8], line: &[u8]) -> Option<Item>
     of_operands(name, line)
 }
 
-#[tactic(auto, unfolding(crate::specs::Items::item_of, crate::specs::Items::asked, crate::specs::Items::has_words))]
+/// What a line asks for: nothing where it has no word.
+#[tactic(auto, unfolding(crate::specs::Items::item_of, crate::specs::Items::item_or_bad_line, crate::specs::Items::has_words))]
 pub fn item_of(line: &[u8]) -> Result<Option<Item>, BadLine>
     ensures { result ≡ item_of line.now }
 {

@@ -1,4 +1,5 @@
--- The floats and the bytes that a line spells, behind those that a buffer holds. But for two lemmas, definitions only.
+-- The floats and the bytes that a line spells, behind those that a buffer holds: definitions, and at the end the
+-- lemmas that the ghost member `stays` cites.
 use Rattle.std.specs.Prelude.{ℕ, zero, suc, ◌+◌, ◌%◌, ◌≡◌, refl, List, length, set, take, drop, nat_le, Float, Bool, true, false, Option, Some, None, if◌then◌else◌, ◌==◌}
 use Rattle.text.specs.Numbers.{number_of, single_of}
 
@@ -39,7 +40,10 @@ with_byte f digits = with_number f (number_of 16 digits)
 -- the first n bytes of a word, two digits each
 unfoldable pub with_bytes : ℕ → Filled ℕ → List ℕ → Filled ℕ
 with_bytes zero f word = f
-with_bytes (suc n) f word = if length word == 0 then f else (if length word == 1 then overfull f else with_bytes n (with_byte f (take 2 word)) (drop 2 word))
+with_bytes (suc n) f word =
+    if length word == 0 then f
+    else (if length word == 1 then overfull f
+    else with_bytes n (with_byte f (take 2 word)) (drop 2 word))
 
 unfoldable pub with_word : Filled ℕ → List ℕ → Filled ℕ
 with_word f word = with_bytes (length word) f word
@@ -62,9 +66,13 @@ number-stays l None = refl
 pub bytes-stay : (n : ℕ) (l : List ℕ) (word : List ℕ) → with_bytes n (filled None l) word ≡ filled None l
 unfolding with_bytes with_byte
 bytes-stay zero l word = refl
-bytes-stay (suc n) l word = go (length word == 0) (length word == 1) (number-stays l (number_of 16 (take 2 word))) (bytes-stay n l (drop 2 word))
+bytes-stay (suc n) l word =
+    go (length word == 0) (length word == 1)
+    (number-stays l (number_of 16 (take 2 word)))
+    (bytes-stay n l (drop 2 word))
   where
-    go : (t u : Bool) {f : Filled ℕ} → f ≡ filled None l → with_bytes n (filled None l) (drop 2 word) ≡ filled None l → (if t then filled None l else (if u then filled None l else with_bytes n f (drop 2 word))) ≡ filled None l
+    go : (t u : Bool) {f : Filled ℕ} → f ≡ filled None l → with_bytes n (filled None l) (drop 2 word) ≡ filled None l
+        → (if t then filled None l else (if u then filled None l else with_bytes n f (drop 2 word))) ≡ filled None l
     go true u e h = refl
     go false true e h = refl
     go false false e h = Prim.rw e h

@@ -19,7 +19,8 @@ with_next None word = None
 -- a step with each of the first n words of a line
 unfoldable pub over_words : {S : Type 0} → (S → List ℕ → S) → ℕ → S → List ℕ → S
 over_words step zero x s = x
-over_words step (suc n) x s = if length (first_word s) == 0 then x else over_words step n (step x (first_word s)) (after_word s)
+over_words step (suc n) x s =
+    if length (first_word s) == 0 then x else over_words step n (step x (first_word s)) (after_word s)
 
 -- all that a line spells, which has no more words than bytes
 unfoldable pub operands_of : List ℕ → Option (List Float)
@@ -34,4 +35,10 @@ unfoldable pub bounds_of : List Float → Bounds
 bounds_of x = record { min = point_at x 0; max = point_at x 2 }
 
 unfoldable pub radii_of : List Float → CornerRadii
-radii_of x = record { top_left = point_at x 4; top_right = point_at x 6; bottom_left = point_at x 8; bottom_right = point_at x 10 }
+radii_of x =
+    record {
+      top_left = point_at x 4;
+      top_right = point_at x 6;
+      bottom_left = point_at x 8;
+      bottom_right = point_at x 10;
+    }

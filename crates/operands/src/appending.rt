@@ -1,18 +1,21 @@
-// The floats and the bytes that a line spells, behind those that a buffer holds. The answer is how many are
-// held then: none where a word spells none or finds no room.
+//! The floats and the bytes that a line spells, behind those that a buffer holds. The answer is how many are
+//! held then: none where a word spells none or finds no room.
 ghost use Rattle.std.specs.Prelude.{◌≡◌, ℕ, List, length, Some, None};
 ghost use Rattle.operands.specs.Operands.{over_words};
 ghost use Rattle.operands.specs.Appending.{Filled, filled, overfull, with_float, with_byte, with_word, no_float_more, no_byte_more};
 
 /// What a word of a line puts into a buffer.
 pub trait Element: Copy {
+    /// A buffer with what a word puts into it.
     ghost with_word: { Filled Self → List ℕ → Filled Self };
 
+    /// Puts a word's elements behind those that are held.
     fn push_word(word: &[u8], buffer: &mut [Self], held: usize) -> Option<usize>
         ensures { filled result buffer.new ≡ with_word (filled (Some held) buffer.old) word.now };
 
-    // Nothing goes in behind what did not go in.
-    ghost stays: { (l : List Self) (word : List ℕ) → with_word (filled None l) word ≡ filled None l };
+    /// Nothing goes in behind what did not go in.
+    ghost stays: { (l : List Self) (word : List ℕ) →
+        with_word (filled None l) word ≡ filled None l };
 }
 
 impl Element for f32 {
@@ -65,13 +68,14 @@ impl Element for u8 {
     }
 }
 
-/// All words of a line.
+/// Puts the elements of all words of a line behind those that are held.
 pub fn push<T: Element>(line: &[u8], buffer: &mut [T], held: usize) -> Option<usize>
-    ensures { filled result buffer.new ≡ over_words T.with_word (length line.now) (filled (Some held) buffer.old) line.now }
+    ensures { filled result buffer.new
+        ≡ over_words T.with_word (length line.now) (filled (Some held) buffer.old) line.now }
 {
     let mut held = held;
     let mut rest = line;
-    // No iterator of words: the definition is a recursion over them (`over_words`), so the invariant says what is left to do.
+    // No iterator of words: the definition is a recursion over them (`over_words`), so the invariant says what is left.
     while let Some((word, tail)) = text::split_word(rest) {
         held = T::push_word(word, buffer, held)?;
         rest = tail;

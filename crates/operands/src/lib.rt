@@ -25,13 +25,13 @@ fn push_next(x: &mut Operands, word: &[u8]) -> Option<()>
     x.try_push(v).ok()
 }
 
-/// None where a word is no single, or there are more than 14.
+/// The operands that a line spells: none where a word is no single, or there are more than 14.
 pub fn read(line: &[u8]) -> Option<Operands>
     ensures { option_map (λ x. x.items) result ≡ operands_of line.now }
 {
     let mut x = ArrayVec::new();
     let mut rest = line;
-    // No iterator of words: the definition is a recursion over them (`over_words`), so the invariant says what is left to do.
+    // No iterator of words: the definition is a recursion over them (`over_words`), so the invariant says what is left.
     while let Some((word, tail)) = text::split_word(rest) {
         push_next(&mut x, word)?;
         rest = tail;
@@ -39,7 +39,7 @@ pub fn read(line: &[u8]) -> Option<Operands>
     Some(x)
 }
 
-/// The i-th, or a NaN where there are not so many.
+/// The i-th operand, or a NaN where there are not so many.
 pub fn at(x: &[f32], i: usize) -> f32
     ensures { result ≡ get_or x.now i nan }
 {
@@ -56,6 +56,7 @@ pub fn point(x: &[f32], i: u8) -> Point
     }
 }
 
+/// The bounds that the first four operands are.
 #[tactic(auto, unfolding(crate::specs::Operands::bounds_of))]
 pub fn bounds(x: &[f32]) -> Bounds
     ensures { result ≡ bounds_of x.now }
@@ -66,6 +67,7 @@ pub fn bounds(x: &[f32]) -> Bounds
     }
 }
 
+/// The corner radii that the eight operands behind them are.
 #[tactic(auto, unfolding(crate::specs::Operands::radii_of))]
 pub fn radii(x: &[f32]) -> CornerRadii
     ensures { result ≡ radii_of x.now }

@@ -9,7 +9,7 @@ use Rattle.panel_file.specs.declared.Kind.{Kind}
 use Rattle.panel_file.specs.declared.Kind.TheVariants.{Button as button, Touch as touch}
 use Rattle.panel_file.specs.declared.Record.{Record}
 use Rattle.panel_file.specs.declared.Counts.{Counts}
-use Rattle.panel_file.specs.Panel.{Answer, done, refused, content_at, on_done, buttons_of, touches_of, counts_of, counted_of}
+use Rattle.panel_file.specs.Panel.{Answer, done, refused, content_at, on_done, buttons_of, touches_of, counts_of, counts_with}
 
 abbrev pub counts : ℕ → ℕ → Counts
 counts b t = record { buttons = b; touches = t }
@@ -29,13 +29,13 @@ plus_all rs = ap₂ counts (sym (zero-add (length (buttons_of rs)))) (sym (zero-
 more : (a n : ℕ) → a + suc n ≡ a + 1 + n
 more a n = omega arith
 
-pub plus_one : (c : Counts) (kind : Kind) (file : List ℕ) (at : ℕ) (rs : List Record) → plus c (content_at kind file at ∷ rs) ≡ plus (counted_of c kind) rs
-unfolding plus buttons_of touches_of content_at counted_of
+pub plus_one : (c : Counts) (kind : Kind) (file : List ℕ) (at : ℕ) (rs : List Record) → plus c (content_at kind file at ∷ rs) ≡ plus (counts_with c kind) rs
+unfolding plus buttons_of touches_of content_at counts_with
 plus_one c button file at rs = ap (λ (n : ℕ). counts n (c.touches + length (touches_of rs))) (more c.buttons (length (buttons_of rs)))
 plus_one c touch file at rs = ap (counts (c.buttons + length (buttons_of rs))) (more c.touches (length (touches_of rs)))
 
-pub one_more : (c : Counts) (kind : Kind) → (counted_of c kind).buttons + (counted_of c kind).touches ≡ c.buttons + c.touches + 1
-unfolding counted_of
+pub one_more : (c : Counts) (kind : Kind) → (counts_with c kind).buttons + (counts_with c kind).touches ≡ c.buttons + c.touches + 1
+unfolding counts_with
 one_more c button = omega arith
 one_more c touch = omega arith
 

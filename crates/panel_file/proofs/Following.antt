@@ -15,7 +15,7 @@ use Rattle.panel_file.specs.declared.Broken.{Broken}
 use Rattle.std.proofs.Common.{Option, Some, None, Result, Ok, Err}
 use Rattle.panel_file.specs.declared.Record.{Record}
 use Rattle.panel_file.specs.declared.Record.TheVariants.{Button as ButtonRecord, Touch as TouchRecord}
-use Rattle.panel_file.specs.Panel.{Answer, done, refused, limit, header, kind_of, payload_of, broken_head, whole_of, head_at, content_at, Entry, entry, end, entry_of, record_at, on_done, followed, readings, records_from, buttons_of, touches_of}
+use Rattle.panel_file.specs.Panel.{Answer, done, refused, limit, header, kind_of, payload_of, broken_head, whole_of, head_at, content_at, Entry, entry, end, entry_of, record_at, on_done, record_and_rest, readings, records_from, buttons_of, touches_of}
 
 -- the offset past a record, and n where there is none
 abbrev past : ℕ → Answer Entry → ℕ
@@ -74,8 +74,8 @@ record_within file at r next e = entry-within file at r next (head_at file at) r
 
 -- readings that agree past a record agree at it
 further : (f g : ℕ → Answer (List Record)) (file : List ℕ) (at : ℕ) (a : Answer Entry) → record_at file at ≡ a
-    → ((next : ℕ) → at < next → next ≤ length file → f next ≡ g next) → followed f a ≡ followed g a
-unfolding followed
+    → ((next : ℕ) → at < next → next ≤ length file → f next ≡ g next) → record_and_rest f a ≡ record_and_rest g a
+unfolding record_and_rest
 further f g file at (done (entry r next)) e h =
     let w = record_within file at r next e in
     ap (on_done (λ rs. r ∷ rs)) (h next w.0 w.1)
@@ -92,15 +92,15 @@ enough (suc n) (suc m) file at h k =
     (λ next a b. enough n m file next (omega arith) (omega arith))
 
 -- the record that stands at an offset, then the records from the offset past it on
-pub records_follow : (file : List ℕ) (at : ℕ) → records_from file at ≡ followed (records_from file) (record_at file at)
+pub records_follow : (file : List ℕ) (at : ℕ) → records_from file at ≡ record_and_rest (records_from file) (record_at file at)
 unfolding records_from readings
 records_follow file at =
     further (readings (length file - at) file) (records_from file) file at (record_at file at) refl
     (λ next a b. enough (length file - at) (suc (length file - next)) file next (omega arith) (omega arith))
 
-pub head_follow : (file : List ℕ) (at : ℕ) (head : Result (Option Kind) Broken) → head_at file at ≡ head → records_from file at ≡ followed (records_from file) (entry_of file at head)
+pub head_follow : (file : List ℕ) (at : ℕ) (head : Result (Option Kind) Broken) → head_at file at ≡ head → records_from file at ≡ record_and_rest (records_from file) (entry_of file at head)
 unfolding record_at
-head_follow file at head e = records_follow file at ∙ ap (λ (h : Result (Option Kind) Broken). followed (records_from file) (entry_of file at h)) e
+head_follow file at head e = records_follow file at ∙ ap (λ (h : Result (Option Kind) Broken). record_and_rest (records_from file) (entry_of file at h)) e
 
 -- ---- how many bytes the records take
 
@@ -157,8 +157,8 @@ unfolding bytes_of_all buttons_of touches_of
 none_fit n rs q = let same : [] ≡ rs = cc in let b : 0 ≡ bytes_of_all rs = ap bytes_of_all same in omega arith
 
 follow_fit : (f : ℕ → Answer (List Record)) (file : List ℕ) (at : ℕ) (rs : List Record) (a : Answer Entry) → record_at file at ≡ a
-    → ((next : ℕ) (ss : List Record) → f next ≡ done ss → bytes_of_all ss ≤ length file - next) → followed f a ≡ done rs → bytes_of_all rs ≤ length file - at
-unfolding followed
+    → ((next : ℕ) (ss : List Record) → f next ≡ done ss → bytes_of_all ss ≤ length file - next) → record_and_rest f a ≡ done rs → bytes_of_all rs ≤ length file - at
+unfolding record_and_rest
 follow_fit f file at rs (done (entry r next)) e h q = behind_fit file at r next rs (f next) e (h next) q
 follow_fit f file at rs (done end) e h q = none_fit (length file - at) rs q
 follow_fit f file at rs (refused c o) e h q = let z : ◌≡◌ {A = ℕ} 0 1 = cc in absurd (omega arith)
@@ -175,7 +175,7 @@ records_fit file at rs q = readings_fit (suc (length file - at)) file at rs q
 
 -- a good file is not too long
 short_by : (file : List ℕ) (at : ℕ) (rs : List Record) (b : Bool) → ltb limit (length file) ≡ b → records_from file at ≡ done rs → length file ≤ limit
-unfolding head_at entry_of followed
+unfolding head_at entry_of record_and_rest
 short_by file at rs true e q =
     let r : records_from file at ≡ refused 7 0 = head_follow file at (broken_head 0) (rw e) in
     let z : ◌≡◌ {A = ℕ} 0 1 = cc in

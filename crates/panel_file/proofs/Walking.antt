@@ -10,7 +10,7 @@ use Rattle.panel_file.specs.declared.Record.TheVariants.{Button as ButtonRecord,
 use Rattle.panel_file.specs.declared.Broken.{Broken}
 use Rattle.std.proofs.Common.{Option, Some, None, Result, Ok, Err}
 use Rattle.panel_file.specs.declared.Counts.{Counts}
-use Rattle.panel_file.specs.Panel.{buttons_of, touches_of, records_of, Answer, done, refused, broken, limit, entry, record_at, read_of, on_done, followed, records_from, is_done, records_in, counts_of, checked_of}
+use Rattle.panel_file.specs.Panel.{buttons_of, touches_of, records_of, Answer, done, refused, broken, limit, entry, record_at, record_answer, on_done, record_and_rest, records_from, is_done, records_in, counts_of, check_answer}
 use Rattle.panel_file.proofs.Following.{records_follow, record_within, record_bytes, bytes_of, bytes-least, bytes_of_all, records_fit, good_short}
 
 -- the value of an answer that has one
@@ -28,18 +28,18 @@ pub record Within (file : List ℕ) (at : ℕ) (r : Record) (next : ℕ) : Type 
   pub least : 12 ≤ bytes_of r
 
 -- reading at an offset answered a
-module _ (file : List ℕ) (at : ℕ) (a : Result (Option (Record × ℕ)) Broken) (e : read_of a ≡ record_at file at) where
-  following : records_from file at ≡ followed (records_from file) (read_of a)
-  following = records_follow file at ∙ ap (followed (records_from file)) (sym e)
+module _ (file : List ℕ) (at : ℕ) (a : Result (Option (Record × ℕ)) Broken) (e : record_answer a ≡ record_at file at) where
+  following : records_from file at ≡ record_and_rest (records_from file) (record_answer a)
+  following = records_follow file at ∙ ap (record_and_rest (records_from file)) (sym e)
 
   module _ (r : Record) (next : ℕ) (q : a ≡ Ok (Some (r, next))) where
     entered : record_at file at ≡ done (entry r next)
-    unfolding read_of
-    entered = sym e ∙ ap read_of q
+    unfolding record_answer
+    entered = sym e ∙ ap record_answer q
 
     consed : records_from file at ≡ on_done (λ rs. r ∷ rs) (records_from file next)
-    unfolding read_of followed
-    consed = following ∙ ap (λ (b : Result (Option (Record × ℕ)) Broken). followed (records_from file) (read_of b)) q
+    unfolding record_answer record_and_rest
+    consed = following ∙ ap (λ (b : Result (Option (Record × ℕ)) Broken). record_and_rest (records_from file) (record_answer b)) q
 
     done_behind : (x : Answer (List Record)) → is_done (on_done (λ rs. r ∷ rs) x) ≡ is_done x
     unfolding is_done on_done
@@ -64,22 +64,22 @@ module _ (file : List ℕ) (at : ℕ) (a : Result (Option (Record × ℕ)) Broke
     step_records h = ap records_in consed ∙ in_behind (records_from file next) (step-done h)
 
 -- where no record is read in a good file, no records are left
-pub stop_records : (file : List ℕ) (at : ℕ) (a : Result (Option (Record × ℕ)) Broken) → read_of a ≡ record_at file at → ((r : Record) (next : ℕ) → a ≡ Ok (Some (r, next)) → ⊥) → is_done (records_from file at) ≡ true
+pub stop_records : (file : List ℕ) (at : ℕ) (a : Result (Option (Record × ℕ)) Broken) → record_answer a ≡ record_at file at → ((r : Record) (next : ℕ) → a ≡ Ok (Some (r, next)) → ⊥) → is_done (records_from file at) ≡ true
     → records_in (records_from file at) ≡ []
-unfolding read_of followed records_in is_done
+unfolding record_answer record_and_rest records_in is_done
 stop_records file at (Ok (Some (r, next))) e o h = absurd (o r next refl)
 stop_records file at (Ok None) e o h = ap records_in (following file at (Ok None) e)
 stop_records file at (Err b) e o h = absurd (false≢true (ap is_done (sym (following file at (Err b) e)) ∙ h))
 
 -- ---- what `check` says
 
-pub checked_good : (x : Answer (List Record)) (c : Counts) → checked_of (Ok c) ≡ on_done counts_of x → (is_done x ≡ true) × (c ≡ counts_of (records_in x))
-unfolding checked_of on_done is_done records_in
+pub checked_good : (x : Answer (List Record)) (c : Counts) → check_answer (Ok c) ≡ on_done counts_of x → (is_done x ≡ true) × (c ≡ counts_of (records_in x))
+unfolding check_answer on_done is_done records_in
 checked_good (done rs) c e = (refl, cc)
 checked_good (refused n o) c e = let z : ◌≡◌ {A = ℕ} 0 1 = cc in absurd (omega arith)
 
-pub checked_broken : (x : Answer (List Record)) (b : Broken) → checked_of (Err b) ≡ on_done counts_of x → broken b.offset ≡ x
-unfolding checked_of on_done
+pub checked_broken : (x : Answer (List Record)) (b : Broken) → check_answer (Err b) ≡ on_done counts_of x → broken b.offset ≡ x
+unfolding check_answer on_done
 checked_broken (done rs) b e = let z : ◌≡◌ {A = ℕ} 0 1 = cc in absurd (omega arith)
 checked_broken (refused n p) b e = cc
 

@@ -1,4 +1,5 @@
--- Numbers, floats and points as a file's bytes hold them, little-endian. A file is the list of its bytes. Definitions only.
+-- Numbers, floats and points as a file's bytes hold them, little-endian. A file is the list of its bytes. Definitions
+-- only.
 use Rattle.std.specs.Prelude.{ℕ, ◌+◌, ◌*◌, List, get_or, Float}
 use Rattle.std.specs.Float.{binary32}
 use Rattle.std.specs.Float.Ieee.{of_bits}

@@ -15,6 +15,6 @@ unfoldable pub records_left : Records → List Record
 records_left it = records_in (records_from it.bytes.now it.at)
 
 -- what `PanelFile::new` answers
-unfoldable pub opened_of : Result PanelFile Broken → Answer (List Record)
-opened_of (Ok f) = done (records f)
-opened_of (Err b) = broken b.offset
+unfoldable pub new_answer : Result PanelFile Broken → Answer (List Record)
+new_answer (Ok f) = done (records f)
+new_answer (Err b) = broken b.offset

@@ -1,4 +1,5 @@
--- What a panel file is: the list of its records, or cause 7 with the offset of the first record that is cut short, of unknown kind or of a length that is not its kind's. Definitions only.
+-- What a panel file is: the list of its records, or the refusal 7 with the offset of the first record that is cut
+-- short, of unknown kind or of a length that is not its kind's. Definitions only.
 use Rattle.std.specs.Prelude.{ℕ, zero, suc, ◌+◌, ◌-◌, Bool, true, false, List, [], ◌∷◌, length, nat_le, nat_lt, Option, Some, None, Result, Ok, Err, if◌then◌else◌, ◌==◌, codes}
 use Rattle.geometry.specs.declared.Point.{Point}
 use Rattle.panel_file.specs.Bytes.{u16_at, point_at}
@@ -11,7 +12,7 @@ use Rattle.panel_file.specs.declared.Record.TheVariants.{Button as ButtonRecord,
 use Rattle.panel_file.specs.declared.Counts.{Counts}
 use Rattle.panel_file.specs.declared.Broken.{Broken}
 
--- What a call on a file answers: a value, or the number of document 01's cause with an offset.
+-- what a call on a file answers: a value, or a refusal's number with an offset
 pub data Answer (A : Type 0) : Type 0 where
   done : A → Answer A
   refused : ℕ → ℕ → Answer A
@@ -31,7 +32,7 @@ header = 4
 unfoldable pub kind_of : ℕ → Result Kind UnknownKind
 kind_of n = if n == 1 then Ok button else (if n == 2 then Ok touch else Err (record { number = n }))
 
--- what is told of a number that is no kind's, before the number, and of a broken file, before the offset
+-- what is said of a number that is no kind's, before the number, and of a broken file, before the offset
 abbrev pub no_kind_text : List ℕ
 no_kind_text = codes "no record has the kind "
 
@@ -62,10 +63,13 @@ broken_head at = Err (record { offset = at })
 -- a record of a known kind is whole where its length is its kind's and that many bytes follow its header
 unfoldable pub whole_of : Result Kind UnknownKind → ℕ → ℕ → ℕ → Result (Option Kind) Broken
 whole_of (Ok kind) len left at =
-    if len == payload_of kind then (if nat_le (header + payload_of kind) left then Ok (Some kind) else broken_head at) else broken_head at
+    if len == payload_of kind
+    then (if nat_le (header + payload_of kind) left then Ok (Some kind) else broken_head at)
+    else broken_head at
 whole_of (Err e) len left at = broken_head at
 
--- What stands at an offset: the kind of a whole record, or none at the end of the file. A file that is too long is broken at 0, which is tested first.
+-- What stands at an offset: the kind of a whole record, or none at the end of the file. A file that is too long is
+-- broken at 0, which is tested first.
 unfoldable pub head_at : List ℕ → ℕ → Result (Option Kind) Broken
 head_at file at =
     let n = length file in
@@ -94,10 +98,10 @@ unfoldable pub record_at : List ℕ → ℕ → Answer Entry
 record_at file at = entry_of file at (head_at file at)
 
 -- what `record_at` answers
-unfoldable pub read_of : Result (Option (Record × ℕ)) Broken → Answer Entry
-read_of (Ok (Some p)) = done (entry p.0 p.1)
-read_of (Ok None) = done end
-read_of (Err b) = broken b.offset
+unfoldable pub record_answer : Result (Option (Record × ℕ)) Broken → Answer Entry
+record_answer (Ok (Some p)) = done (entry p.0 p.1)
+record_answer (Ok None) = done end
+record_answer (Err b) = broken b.offset
 
 -- one function of a value; a refusal stays what it is
 unfoldable pub on_done : {A B : Type 0} → (A → B) → Answer A → Answer B
@@ -105,20 +109,21 @@ on_done f (done a) = done (f a)
 on_done f (refused n at) = refused n at
 
 -- a record, then those from the offset past it on
-unfoldable pub followed : (ℕ → Answer (List Record)) → Answer Entry → Answer (List Record)
-followed rest (done (entry r next)) = on_done (λ rs. r ∷ rs) (rest next)
-followed rest (done end) = done []
-followed rest (refused n at) = refused n at
+unfoldable pub record_and_rest : (ℕ → Answer (List Record)) → Answer Entry → Answer (List Record)
+record_and_rest rest (done (entry r next)) = on_done (λ rs. r ∷ rs) (rest next)
+record_and_rest rest (done end) = done []
+record_and_rest rest (refused n at) = refused n at
 
--- The records from an offset on, in at most n readings. A record takes at least one byte, so one reading more than there are bytes left comes to the end.
+-- The records from an offset on, in at most n readings. A record takes at least one byte, so one reading more than
+-- there are bytes left comes to the end.
 unfoldable pub readings : ℕ → List ℕ → ℕ → Answer (List Record)
 readings zero file at = done []
-readings (suc n) file at = followed (readings n file) (record_at file at)
+readings (suc n) file at = record_and_rest (readings n file) (record_at file at)
 
 unfoldable pub records_from : List ℕ → ℕ → Answer (List Record)
 records_from file at = readings (suc (length file - at)) file at
 
--- The records of a file, or cause 7 at its first broken record.
+-- the records of a file, or the refusal 7 at its first broken record
 unfoldable pub records_of : List ℕ → Answer (List Record)
 records_of file = records_from file 0
 
@@ -146,15 +151,15 @@ touches_of (TouchRecord p ∷ rs) = p ∷ touches_of rs
 unfoldable pub counts_of : List Record → Counts
 counts_of rs = record { buttons = length (buttons_of rs); touches = length (touches_of rs) }
 
-unfoldable pub counted_of : Counts → Kind → Counts
-counted_of c button = record { buttons = c.buttons + 1; touches = c.touches }
-counted_of c touch = record { buttons = c.buttons; touches = c.touches + 1 }
+unfoldable pub counts_with : Counts → Kind → Counts
+counts_with c button = record { buttons = c.buttons + 1; touches = c.touches }
+counts_with c touch = record { buttons = c.buttons; touches = c.touches + 1 }
 
 unfoldable pub kind_of_record : Record → Kind
 kind_of_record (ButtonRecord b) = button
 kind_of_record (TouchRecord p) = touch
 
 -- what `check` answers
-unfoldable pub checked_of : Result Counts Broken → Answer Counts
-checked_of (Ok c) = done c
-checked_of (Err b) = broken b.offset
+unfoldable pub check_answer : Result Counts Broken → Answer Counts
+check_answer (Ok c) = done c
+check_answer (Err b) = broken b.offset

@@ -15,16 +15,17 @@ pub struct PanelFile<'a> {
 }
 
 impl<'a> PanelFile<'a> {
-    ghost use Rattle.panel_file.specs.File.{records, opened_of, records_left};
-    ghost use Rattle.panel_file.specs.Panel.{touches_of};
+    ghost use Rattle.panel_file.specs.File.{records, new_answer, records_left};
 
+    /// The bytes as a panel file, if they are a good one.
     pub fn new(bytes: &'a [u8]) -> Result<PanelFile<'a>, Broken>
-        ensures { opened_of result ≡ records_of bytes.now }
+        ensures { new_answer result ≡ records_of bytes.now }
     {
         let counts = check(bytes)?;
         Ok(PanelFile { bytes, counts })
     }
 
+    /// How many records of each kind there are.
     pub fn counts(&self) -> Counts
         ensures value { result ≡ counts_of (records self.now) }
         ensures most { result.touches ≤ 5461 }
@@ -32,6 +33,7 @@ impl<'a> PanelFile<'a> {
         self.counts
     }
 
+    /// The records, in file order.
     pub fn records(&self) -> Records<'a>
         ensures value { records_left result ≡ records self.now }
         ensures most { length (records self.now) ≤ 5461 }

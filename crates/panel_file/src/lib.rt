@@ -1,11 +1,11 @@
-//! Panel files: records of a payload's length, a kind and the payload, little-endian, at most 65,536
-//! bytes. Whatever a file holds, reading it answers its records or document 01's cause 7.
+//! Panel files (docs/SPECIFICATION.md, "Panel file"): records of a payload's length, a kind and the payload,
+//! little-endian, at most 65,536 bytes. Whatever a file holds, reading it answers its records or the refusal 7.
 
 #![tactic(auto)]
 
 ghost use Rattle.std.specs.Prelude.{◌≡◌, ◌++◌, ◌+◌, ◌<◌, ◌≤◌, length, decimal, Some};
 ghost use Rattle.panel_file.specs.Bytes.{u16_at, u32_at, f32_at, point_at};
-ghost use Rattle.panel_file.specs.Panel.{no_kind_text, broken_text, kind_of, payload_of, button_at, head_at, record_at, read_of, records_of, on_done, counts_of, counted_of, kind_of_record, checked_of};
+ghost use Rattle.panel_file.specs.Panel.{no_kind_text, broken_text, kind_of, payload_of, button_at, head_at, record_at, record_answer, records_of, on_done, counts_of, counts_with, kind_of_record, check_answer};
 
 pub use file::{PanelFile, Records};
 use geometry::Point;
@@ -15,12 +15,13 @@ use std::num::f32_from_bits_with_nan;
 
 mod file;
 
-/// The longest file.
-pub const LIMIT: usize = 65536;
+// The longest file.
+const LIMIT: usize = 65536;
 
-/// The bytes in front of a payload: its length and its kind.
-pub const HEADER: usize = 4;
+// The bytes in front of a payload: its length and its kind.
+const HEADER: usize = 4;
 
+/// What a record describes.
 #[derive(Clone, Copy, Debug, PartialEq, Eq)]
 pub enum Kind {
     Button,
@@ -69,22 +70,22 @@ pub struct Button {
     pub bottom_right: Point,
 }
 
+/// A record's payload.
 #[derive(Clone, Copy)]
 pub enum Record {
     Button(Button),
     Touch(Point),
 }
 
-/// A file that is cut short or too long, or in which a record has an unknown kind or a wrong length:
-/// document 01's cause 7.
+/// A file that is cut short or too long, or in which a record has an unknown kind or a wrong length: the refusal 7.
 #[derive(Clone, Copy, Debug, PartialEq, Eq)]
 pub struct Broken {
-    // Where the first broken record starts.
+    /// Where the first broken record starts.
     pub offset: usize,
 }
 
 impl Broken {
-    /// Document 01's number of the cause.
+    /// The refusal's number.
     pub fn number(self) -> u8
         ensures { result ≡ 7 }
     {
@@ -110,6 +111,7 @@ pub struct Counts {
 }
 
 impl Record {
+    /// What the record describes.
     #[tactic(auto, unfolding(crate::specs::Panel::kind_of_record))]
     pub fn kind(self) -> Kind
         ensures { result ≡ kind_of_record self }
@@ -123,10 +125,11 @@ impl Record {
 
 impl Counts {
     /// With one record more.
-    #[tactic(auto, unfolding(crate::specs::Panel::counted_of))]
+    #[tactic(auto, unfolding(crate::specs::Panel::counts_with))]
     pub fn with(self, kind: Kind) -> Counts
-        requires { (self.buttons < 65536) × (self.touches < 65536) }
-        ensures { result ≡ counted_of self kind }
+        requires buttons { self.buttons < 65536 }
+        requires touches { self.touches < 65536 }
+        ensures { result ≡ counts_with self kind }
     {
         match kind {
             Kind::Button => Counts {
@@ -235,9 +238,9 @@ fn head_at(file: &[u8], at: usize) -> Result<Option<Kind>, Broken>
 }
 
 /// The record at an offset of the file and the offset past it; at the file's length and past it, none.
-#[tactic(auto, unfolding(crate::specs::Panel::read_of, crate::specs::Panel::record_at, crate::specs::Panel::entry_of, crate::specs::Panel::content_at, crate::specs::Panel::payload_of))]
+#[tactic(auto, unfolding(crate::specs::Panel::record_answer, crate::specs::Panel::record_at, crate::specs::Panel::entry_of, crate::specs::Panel::content_at, crate::specs::Panel::payload_of))]
 pub fn record_at(file: &[u8], at: usize) -> Result<Option<(Record, usize)>, Broken>
-    ensures { read_of result ≡ record_at file.now at }
+    ensures { record_answer result ≡ record_at file.now at }
 {
     let Some(kind) = head_at(file, at)? else {
         return Ok(None);
@@ -250,9 +253,9 @@ pub fn record_at(file: &[u8], at: usize) -> Result<Option<(Record, usize)>, Brok
     }
 }
 
-/// How many records of each kind the whole file holds, if it is good.
-pub fn check(file: &[u8]) -> Result<Counts, Broken>
-    ensures { checked_of result ≡ on_done counts_of (records_of file.now) }
+// How many records of each kind the whole file holds, if it is good.
+fn check(file: &[u8]) -> Result<Counts, Broken>
+    ensures { check_answer result ≡ on_done counts_of (records_of file.now) }
 {
     let mut at = 0;
     let mut counts = Counts::default();

@@ -1,9 +1,10 @@
-// The functions of the float ground under the names that a vector uses, by the number of their
-// operands.
+//! The operations on floats and points and the elementary functions, under the names that a vector uses, by the number
+//! of their operands.
 use geometry::Point;
 use std::fmt;
 use text::Spelled;
 
+/// What a function answers.
 #[derive(Drop)]
 pub enum Answer {
     Flag(bool),

@@ -23,8 +23,8 @@ fn put_field(part: &mut Part, word: &[u8]) -> Option<()> {
     part.try_extend_from_slice(&bytes[..length]).ok()
 }
 
-// The bytes of all fields of a line. The loop is that of operands' `read`, around another step: a function of both would take
-// the step as a closure that fills another array.
+// The bytes of all fields of a line. The loop is that of operands' `read`, around another step: a function of both
+// would take the step as a closure that fills another array.
 fn part_of(words: &[u8]) -> Option<Part> {
     let mut part = Part::new();
     let mut rest = words;
@@ -76,7 +76,6 @@ fn take_lines(rt: &impl Print, lines: &[u8]) -> io::Result<()> {
 fn main(rt: HostRuntime) -> io::Result<()> {
     // The text is one array and how much of it is held: `fill` fills a lent buffer, and there is no heap.
     let mut lines = [0u8; 131072];
-    // What a read that fails leaves unread is no line.
-    let (n, _) = input::fill(&mut rt.stdin(), &mut lines);
+    let n = input::fill(&mut rt.stdin(), &mut lines)?;
     take_lines(&rt, &lines[..n])
 }

@@ -1,7 +1,7 @@
-// The replies to what a line asks.
+//! The replies to what a line asks.
 use calls::BuildError;
-use geometry::Point;
 use conic_writer::Written;
+use geometry::Point;
 use outline::BuildingCall;
 use reader::{Cursor, ReadError, Rect, Segment};
 use replies::Reply;
@@ -9,10 +9,12 @@ use shape::{RoundSuperellipse, ShapeError};
 use std::io;
 use stream::Builder;
 
+/// A reply, on a line of its own.
 pub fn write(rt: &impl Print, reply: Reply) -> io::Result<()> {
     rt.println(reply)
 }
 
+/// The segment that was read, and the next cursor, or why there is none.
 pub fn write_reading(rt: &impl Print, a: Result<(Segment, Cursor), ReadError>) -> io::Result<()> {
     write(
         rt,
@@ -23,6 +25,7 @@ pub fn write_reading(rt: &impl Print, a: Result<(Segment, Cursor), ReadError>) -
     )
 }
 
+/// A path's box, if it has one, or why it cannot be read.
 pub fn write_box(rt: &impl Print, a: Result<Option<Rect>, ReadError>) -> io::Result<()> {
     write(
         rt,

@@ -1,7 +1,8 @@
-// A buffer of the program, and how much of it is lent.
+//! A buffer of the program, and how much of it is lent.
 use items::BadLine;
 use operands::Element;
 
+/// An array, whose first elements are lent.
 #[derive(Drop)]
 pub struct Buffer<T, const N: usize> {
     all: [T; N],
@@ -17,14 +18,17 @@ impl<T: Copy, const N: usize> Buffer<T, N> {
         }
     }
 
+    /// Whether so much of it can be lent.
     pub fn has_room(&self, n: usize) -> bool {
         n <= N
     }
 
+    /// What is lent, to be read.
     pub fn lent(&self) -> Option<&[T]> {
         self.all.get(..self.held)
     }
 
+    /// What is lent, to be written.
     pub fn lent_mut(&mut self) -> Option<&mut [T]> {
         let held = self.held;
         let array = &mut self.all;
@@ -34,7 +38,7 @@ impl<T: Copy, const N: usize> Buffer<T, N> {
 }
 
 impl<T: Element, const N: usize> Buffer<T, N> {
-    /// The words of a line behind what is held.
+    /// Puts the words of a line behind what is held.
     pub fn grow(&mut self, line: &[u8]) -> Result<(), BadLine> {
         self.held = operands::push(line, &mut self.all, self.held).ok_or(BadLine)?;
         Ok(())

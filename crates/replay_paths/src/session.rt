@@ -1,9 +1,9 @@
-// The current list or raw stream, and what each line does to it.
+//! The current list or raw stream, and what each line does to it.
 use crate::answers;
 use crate::buffers::Buffer;
 use geometry::Point;
-use items::{BadLine, Item};
 use input::lines::TooLong;
+use items::{BadLine, Item};
 use outline::BuildingCall;
 use reader::Cursor;
 use replies::Reply;
@@ -49,6 +49,7 @@ pub struct Session {
 }
 
 impl Session {
+    /// Nothing is current.
     pub fn new() -> Session {
         Session {
             current: Current::Nothing,

@@ -1,4 +1,4 @@
-// The fields of a shape in the order of their declarations, as words of a line.
+//! The fields of a shape in the order of their declarations, as words of a line.
 use geometry::Point;
 use octant::Octant;
 use quadrant::Quadrant;
@@ -6,7 +6,7 @@ use shape::RoundSuperellipse;
 use std::fmt;
 use text::Spelled;
 
-// Not the `Place` of replies, which has a blank in front: shapes takes nothing else from that crate.
+// Not the `Place` of replies, which has a blank in front: replay_shapes takes nothing else from that crate.
 #[derive(Clone, Copy)]
 struct Place(Point);
 
@@ -45,6 +45,7 @@ impl fmt::Display for Quarter {
     }
 }
 
+/// A shape that is written as its fields.
 #[derive(Clone, Copy)]
 pub struct Fields(pub RoundSuperellipse);
 

@@ -1,7 +1,7 @@
 //! Makes the shapes on standard input, one to a line: twelve floats, each the hexadecimal digits of
 //! its bits or `nan`, for min, max and the radii top left, top right, bottom left, bottom right. The
 //! answer is every field of every quadrant and octant, then `1` where one quadrant stands for all and
-//! `0` elsewhere; `refused` and the number of the cause; `bad` for a line that is no shape; nothing
+//! `0` elsewhere; `refused` and the refusal's number; `bad` for a line that is no shape; nothing
 //! for a line with no word. A `#` starts a comment. A line has at most 1,024 bytes.
 
 #![tactic(auto)]

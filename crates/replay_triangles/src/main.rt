@@ -1,6 +1,6 @@
 //! Draws lists of triangles twice, each way on buffers of its own: by the calls that take the record by
-//! value, then by the calls over a lent record. It writes the answers and the streams as the oracle does for
-//! the list in the file stdin; of an accepted call over a lent record there is nothing to write.
+//! value, then by the in-place calls. It writes the answers and the streams as the oracle does for
+//! the list in the file stdin; of an accepted in-place call there is nothing to write.
 
 #![tactic(auto)]
 
@@ -13,9 +13,9 @@ use stream::Builder;
 
 // Stays an enum: with a closure in its place each function down to the drawing would require that it may be called.
 #[derive(Clone, Copy)]
-enum Face {
+enum Form {
     ByValue,
-    Lent,
+    InPlace,
 }
 
 // A record with its buffers.
@@ -27,7 +27,7 @@ struct Path<'a> {
 }
 
 impl Path<'_> {
-    // Keeps the record of an answer, and tells it.
+    // Keeps the record of an answer, and writes the answer.
     fn keep(&mut self, rt: &impl Print, a: Result<Builder, BuildError>) -> io::Result<()> {
         match a {
             Ok(b) => {
@@ -55,7 +55,7 @@ impl Path<'_> {
         self.keep(rt, closed)
     }
 
-    fn over_lent(&mut self, rt: &impl Print, [p, q, r]: [Point; 3]) -> io::Result<()> {
+    fn in_place(&mut self, rt: &impl Print, [p, q, r]: [Point; 3]) -> io::Result<()> {
         let d = builder_in_place::triangle(self.builder, self.verbs, self.points, p, q, r);
         self.builder = d.builder;
         for a in [d.moved, d.second, d.third, d.closed] {
@@ -67,7 +67,7 @@ impl Path<'_> {
     }
 
     // Four triangles, each to the right of the one before.
-    fn draw(&mut self, rt: &impl Print, face: Face) -> io::Result<()> {
+    fn draw(&mut self, rt: &impl Print, form: Form) -> io::Result<()> {
         let mut x = -1.75;
         for _ in 0..4u8 {
             let corners = [
@@ -75,9 +75,9 @@ impl Path<'_> {
                 Point { x: x + 1.0, y: 0.5 },
                 Point { x, y: -1.25 },
             ];
-            match face {
-                Face::ByValue => self.by_value(rt, corners)?,
-                Face::Lent => self.over_lent(rt, corners)?,
+            match form {
+                Form::ByValue => self.by_value(rt, corners)?,
+                Form::InPlace => self.in_place(rt, corners)?,
             }
             x += 1.5;
         }
@@ -86,7 +86,7 @@ impl Path<'_> {
 }
 
 // One list of calls, from this record, in buffers of v verbs and f floats.
-fn list(rt: &impl Print, face: Face, b: Builder, v: usize, f: usize) -> io::Result<()> {
+fn list(rt: &impl Print, form: Form, b: Builder, v: usize, f: usize) -> io::Result<()> {
     let mut verbs = [0u8; 16];
     let mut points = [0.0f32; 32];
     let Some(verbs) = verbs.get_mut(..v) else {
@@ -100,7 +100,7 @@ fn list(rt: &impl Print, face: Face, b: Builder, v: usize, f: usize) -> io::Resu
         verbs,
         points,
     };
-    path.draw(rt, face)?;
+    path.draw(rt, form)?;
     let Path {
         builder,
         verbs,
@@ -110,20 +110,20 @@ fn list(rt: &impl Print, face: Face, b: Builder, v: usize, f: usize) -> io::Resu
 }
 
 // Enough room, too little, none, and a record that does not suit its buffers.
-fn lists(rt: &impl Print, face: Face) -> io::Result<()> {
-    list(rt, face, stream::new(), 16, 32)?;
-    list(rt, face, stream::new(), 6, 9)?;
-    list(rt, face, stream::new(), 0, 0)?;
+fn lists(rt: &impl Print, form: Form) -> io::Result<()> {
+    list(rt, form, stream::new(), 16, 32)?;
+    list(rt, form, stream::new(), 6, 9)?;
+    list(rt, form, stream::new(), 0, 0)?;
     let unsuited = Builder {
         verbs: 9,
         points: 9,
         start: Point { x: 0.5, y: 0.25 },
         pen: Point { x: 1.5, y: 2.5 },
     };
-    list(rt, face, unsuited, 8, 16)
+    list(rt, form, unsuited, 8, 16)
 }
 
 fn main(rt: HostRuntime) -> io::Result<()> {
-    lists(&rt, Face::ByValue)?;
-    lists(&rt, Face::Lent)
+    lists(&rt, Form::ByValue)?;
+    lists(&rt, Form::InPlace)
 }

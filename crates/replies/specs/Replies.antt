@@ -1,5 +1,5 @@
--- The lines that the program replay writes (docs/REPLAY.md), as lists of bytes. Definitions only.
-use Rattle.std.specs.Prelude.{ℕ, List, [], ◌∷◌, ◌++◌, decimal, codes}
+-- The lines that replay_paths and replay_triangles write (docs/REPLAY.md), as lists of bytes. Definitions only.
+use Rattle.std.specs.Prelude.{ℕ, List, ◌++◌, decimal, codes}
 use Rattle.geometry.specs.declared.Point.{Point}
 use Rattle.reader.specs.declared.Segment.{Segment}
 use Rattle.reader.specs.declared.Segment.TheVariants as segment
@@ -9,10 +9,10 @@ use Rattle.text.specs.Written.{hexadecimal_text, single_text}
 use Rattle.replies.specs.declared.Reply.{Reply}
 use Rattle.replies.specs.declared.Reply.TheVariants.{Element, Read, Record, End, Empty, Box, Done, Worded, Yes, No, Refused, Malformed, BadLine}
 
--- ---- the fixed texts, in ASCII
+-- ---- the fixed texts
 
 abbrev pub blank : List ℕ
-blank = 32 ∷ []  -- a blank
+blank = codes " "
 
 abbrev pub move_text : List ℕ
 move_text = codes "move"
@@ -51,10 +51,10 @@ abbrev pub word_text : List ℕ
 word_text = codes " word "
 
 abbrev pub one_text : List ℕ
-one_text = 49 ∷ []  -- `1`
+one_text = codes "1"
 
 abbrev pub zero_text : List ℕ
-zero_text = 48 ∷ []  -- `0`
+zero_text = codes "0"
 
 abbrev pub refused_text : List ℕ
 refused_text = codes "refused "
@@ -99,7 +99,7 @@ reply_text (Refused n) = refused_text ++ decimal n
 reply_text (Malformed v) = malformed_text ++ decimal v
 reply_text (BadLine n) = bad_text ++ decimal n
 
--- the reply to a reading that is refused: a refusal 6 is told with its verb
+-- the reply to a reading that is refused: a refusal 6 with its verb
 abbrev pub refused_reply : ReadError → Reply
 refused_reply (read_error.BadRecord b) = Refused 1
 refused_reply (read_error.Malformed i) = Malformed i

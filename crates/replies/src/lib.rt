@@ -1,40 +1,48 @@
-//! The lines that the program replay writes (docs/REPLAY.md), but for the ends of the lines.
+//! The lines that replay_paths and replay_triangles write (docs/REPLAY.md), but for the ends of the lines.
 
 #![tactic(auto)]
 
-mod placing;
 mod streams;
 
 ghost use Rattle.std.specs.Prelude.{Some};
 ghost use Rattle.replies.specs.Replies.{counts_text, point_text, segment_text, reply_text};
 
 use geometry::Point;
-pub use placing::put;
 use reader::{Cursor, Rect, Segment};
 use std::fmt;
 use stream::Builder;
 pub use streams::write_stream;
 use text::{Hexadecimal, Spelled};
 
+/// What one line says.
 #[derive(Drop)]
 pub enum Reply {
-    // A segment of a stream, and one read at a cursor with the next cursor.
+    /// A segment of a stream.
     Element(Segment),
+    /// A segment that was read at a cursor, and the next cursor.
     Read(Segment, Cursor),
-    // What a list ends with.
+    /// The record that a list ends with.
     Record(Builder),
+    /// A stream ends.
     End,
+    /// A path without a box.
     Empty,
+    /// A path's box.
     Box(Rect),
-    // The counts behind a building call, and a conic's joint word.
+    /// The counts behind a building call.
     Done(Builder),
+    /// The counts behind a conic, and its joint word.
     Worded(Builder, u64),
+    /// A point lies inside.
     Yes,
+    /// A point lies outside.
     No,
-    // A refusal's number, the verb of a refusal 6, and the number of a bad line. A refusal stays a number, as the
-    // line tells it: the errors of calls, reader and shape each give theirs.
+    /// A refusal's number. It stays a number, as the line says it: the errors of calls, reader and shape each give
+    /// theirs.
     Refused(u64),
+    /// The index of the verb of a refusal 6.
     Malformed(u64),
+    /// The number of a bad line.
     BadLine(u64),
 }
 

@@ -1,4 +1,4 @@
-// A stream written line by line.
+//! A stream written line by line.
 ghost use Rattle.std.specs.Prelude.{◌≡◌};
 ghost use Rattle.replies.specs.Replies.{refused_reply};
 
@@ -18,8 +18,8 @@ impl From<ReadError> for Reply {
     }
 }
 
-/// The segments from cursor (0, 0), then the record of a list and `end`; a refusal ends it. No contract can say what is
-/// printed. A good record holds no more verbs than are lent.
+/// Writes the segments from cursor (0, 0), then the record of a list and `end`; a refusal ends it. No contract can
+/// say what is printed. A good record holds no more verbs than are lent.
 pub fn write_stream(
     rt: &impl Print,
     b: Builder,

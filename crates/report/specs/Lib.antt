@@ -1,2 +1,3 @@
 pub mod Report
 pub mod Lines
+pub use Rattle.report_lines.specs.Text

@@ -1,4 +1,4 @@
-//! The report on a panel file, as the program `fascia` prints it: document 01's "Program `fascia`" whole.
+//! The report on a panel file, as the program `fascia` prints it (docs/SPECIFICATION.md, "The report").
 
 #![tactic(auto)]
 
@@ -9,14 +9,14 @@ ghost use Rattle.panel_file.specs.File.{records};
 ghost use Rattle.touch.specs.Touch.{place_of};
 ghost use Rattle.report_lines.specs.Text.{text_of, Over};
 ghost use Rattle.report.specs.Report.{shape_line, touch_line, lines_of, report_of};
-ghost use Rattle.report.specs.Lines.{line_for, line_at, Placed};
+ghost use Rattle.report.specs.Lines.{line_for, line_at, HoldsPlaces};
 
 use panel_file::{Counts, PanelFile, Record};
 use report_lines::{Line, Lines};
 use shape::{RoundSuperellipse, ShapeError};
 use touch::{MOST_TOUCHES, NOWHERE};
 
-#[tactic(auto, unfolding(crate::specs::Report::shape_line, crate::specs::Report::drawn, shape::specs::Refusal::shape_outcome_of))]
+#[tactic(auto, unfolding(crate::specs::Report::shape_line, crate::specs::Report::need_of_outline, shape::specs::Refusal::shape_outcome_of))]
 fn shape_line(index: usize, made: Result<RoundSuperellipse, ShapeError>) -> Line
     ensures { result ≡ shape_line index (shape_outcome_of made) }
 {
@@ -49,25 +49,26 @@ fn line_for(record: Record, index: usize, code: u32) -> Line
     }
 }
 
-// The places of a file's touches: what they tell of each record.
+// The places of a file's touches: each record's line comes from them.
 #[derive(Drop)]
 struct Places {
-    touched: [u32; 5461],
+    place_codes: [u32; 5461],
 }
 
 impl Lines for Places {
-    ghost line = { λ p. line_at p.touched };
+    ghost line = { λ p. line_at p.place_codes };
 
     fn line(&self, counts: Counts, record: Record) -> Option<Line> {
-        Some(line_for(record, counts.buttons, self.touched[counts.touches]))
+        Some(line_for(record, counts.buttons, self.place_codes[counts.touches]))
     }
 }
 
 // The report on a good file, with the places of its touches.
 fn put_lines(file: &PanelFile, places: &Places, out: &mut [u8; 393288]) -> usize
-    requires { Placed (records file.now) places.now.touched 0 (records file.now) }
+    requires { HoldsPlaces (records file.now) places.now.place_codes 0 (records file.now) }
     ensures prefix_len { IsPrefixLen result out.new }
-    ensures over { Over out.old 0 (text_of (lines_of (records file.now) 0 (records file.now))) result out.new }
+    ensures over { let lines = lines_of (records file.now) 0 (records file.now) in
+        Over out.old 0 (text_of lines) result out.new }
 {
     let n = report_lines::put_records(places, file, out);
     report_lines::put_line(Line::End, out, n)
@@ -82,9 +83,9 @@ pub fn report(file: &[u8], out: &mut [u8; 393288]) -> usize
     match PanelFile::new(file) {
         Ok(file) => {
             let mut places = Places {
-                touched: [NOWHERE; MOST_TOUCHES],
+                place_codes: [NOWHERE; MOST_TOUCHES],
             };
-            touch::places(&file, &mut places.touched);
+            touch::places(&file, &mut places.place_codes);
             put_lines(&file, &places, out)
         }
         Err(broken) => report_lines::put_line(Line::from(broken), out, 0),

@@ -6,7 +6,7 @@ use lib.ListN.{length-append, length-take}
 use Rattle.io.specs.Counts.{IsPrefixLen}
 use Rattle.panel_file.specs.declared.Counts.{Counts}
 use Rattle.panel_file.specs.declared.Record.{Record}
-use Rattle.panel_file.specs.Panel.{counted_of, kind_of_record}
+use Rattle.panel_file.specs.Panel.{counts_with, kind_of_record}
 use Rattle.report_lines.specs.declared.Line.{Line}
 use Rattle.report_lines.specs.Line.{line_of}
 use Rattle.report_lines.specs.Text.{text_of, Over}
@@ -21,9 +21,9 @@ lines_then (Some l) ls = ap (λ (t : List ℕ). t ++ text_of ls) (sym (append-ni
 
 -- a record's lines, then those of the records to come
 pub next_lines : (line : Counts → Record → Option Line) (c : Counts) (r : Record) (rs : List Record)
-    → text_of (lines_by line c (r ∷ rs)) ≡ text_of (lines_at (line c r)) ++ text_of (lines_by line (counted_of c (kind_of_record r)) rs)
+    → text_of (lines_by line c (r ∷ rs)) ≡ text_of (lines_at (line c r)) ++ text_of (lines_by line (counts_with c (kind_of_record r)) rs)
 unfolding lines_by
-next_lines line c r rs = lines_then (line c r) (lines_by line (counted_of c (kind_of_record r)) rs)
+next_lines line c r rs = lines_then (line c r) (lines_by line (counts_with c (kind_of_record r)) rs)
 
 -- no text over l
 pub over_none : (l : List ℕ) (at : ℕ) → Over l at [] at l

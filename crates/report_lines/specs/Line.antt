@@ -49,19 +49,21 @@ abbrev pub newline : List ℕ
 newline = 10 ∷ []
 
 -- a number in decimal digits, without zeros in front, and a text
-unfoldable pub numbered : ℕ → List ℕ → List ℕ
-numbered n text = decimal_text n ++ text
+unfoldable pub number_then : ℕ → List ℕ → List ℕ
+number_then n text = decimal_text n ++ text
 
--- `shape I V P`, `shape I refused N`, `touch I`, `touch none`, `end`, `shape I ok`, `shape I parts company`, `refused N at O`
+-- `shape I V P`, `shape I refused N`, `touch I`, `touch none`, `end`, `shape I ok`, `shape I parts company`,
+-- `refused N at O`
 unfoldable pub line_of : Line → List ℕ
-line_of (Shape index verbs points) = shape_text ++ numbered index blank ++ numbered verbs blank ++ numbered points newline
-line_of (Refused index cause) = shape_text ++ numbered index refused_between ++ numbered cause newline
-line_of (Touch index) = touch_text ++ numbered index newline
+line_of (Shape index verbs points) =
+    shape_text ++ number_then index blank ++ number_then verbs blank ++ number_then points newline
+line_of (Refused index cause) = shape_text ++ number_then index refused_between ++ number_then cause newline
+line_of (Touch index) = touch_text ++ number_then index newline
 line_of Nowhere = touch_text ++ none_text ++ newline
 line_of End = end_text ++ newline
-line_of (Consistent index) = shape_text ++ numbered index (ok_text ++ newline)
-line_of (Apart index) = shape_text ++ numbered index (apart_text ++ newline)
-line_of (Broken cause offset) = refused_text ++ numbered cause at_text ++ numbered offset newline
+line_of (Consistent index) = shape_text ++ number_then index (ok_text ++ newline)
+line_of (Apart index) = shape_text ++ number_then index (apart_text ++ newline)
+line_of (Broken cause offset) = refused_text ++ number_then cause at_text ++ number_then offset newline
 
 -- the text behind the first `at` of l, in the first r of l'
 pub record Added (l : List ℕ) (at : ℕ) (text : List ℕ) (r : ℕ) (l' : List ℕ) : Type 0 where

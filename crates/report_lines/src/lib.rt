@@ -7,36 +7,32 @@ ghost use Rattle.io.specs.Counts.{IsPrefixLen};
 ghost use Rattle.panel_file.specs.declared.Counts.{Counts};
 ghost use Rattle.panel_file.specs.declared.Record.{Record};
 ghost use Rattle.panel_file.specs.File.{records};
-ghost use Rattle.text.specs.Written.{decimal_text};
 ghost use Rattle.report_lines.specs.declared.Line.{Line};
-ghost use Rattle.report_lines.specs.Line.{Added, newline, numbered, line_of};
+ghost use Rattle.report_lines.specs.Line.{Added, newline, number_then, line_of};
 ghost use Rattle.report_lines.specs.Text.{text_of, Over};
 ghost use Rattle.report_lines.specs.Records.{none_before, lines_at, lines_by};
 
 use panel_file::{Broken, Counts, PanelFile, Record};
 
-/// A line has at most 72 bytes and a record at least 12, so a file of 65,536 bytes has a report of
-/// at most 6 times its length, and the last line. An array of the largest size and no Vec: the library has no heap.
-pub const ROOM: usize = 393288;
-
+/// One line of a report. A refusal stays a number: the definitions (`Outcome`, `Answer`) know it by its number alone,
+/// so a line of `ShapeError` or of panel_file's `Broken` had no value at their other numbers.
 #[derive(Drop)]
 pub enum Line {
-    // A button's index, and the verbs and points of its outline.
+    /// A button's index, and the verbs and points of its outline.
     Shape(usize, usize, usize),
-    // A cause stays a number, here and in `Broken`: the definitions (`Outcome`, `Answer`) know it by its number alone,
-    // so a line of `ShapeError` or of panel_file's `Broken` had no value at their other numbers.
-    // The index of a button whose shape is refused, and the cause's number.
+    /// The index of a button whose shape is refused, and the refusal's number.
     Refused(usize, usize),
-    // The index of the button that a touch goes to.
+    /// The index of the button that a touch goes to.
     Touch(usize),
-    // A touch that goes to none.
+    /// A touch that goes to none.
     Nowhere,
-    // A good file ends.
+    /// A good file ends.
     End,
-    // The index of a button whose outline and touch area keep together, and of one whose part company.
+    /// The index of a button whose outline and touch area are consistent.
     Consistent(usize),
+    /// The index of a button whose outline and touch area are not.
     Apart(usize),
-    // A broken file: the cause's number and the offset.
+    /// A broken file: the refusal's number and the offset.
     Broken(usize, usize),
 }
 
@@ -58,7 +54,7 @@ fn word(out: &mut [u8; 72], at: usize, text: &[u8]) -> usize
 // A number and the text behind it.
 fn number(out: &mut [u8; 72], at: usize, n: usize, text: &[u8]) -> usize
     requires { at + 20 + length text.now ≤ 72 }
-    ensures { Added out.old at (numbered n text.now) result out.new }
+    ensures { Added out.old at (number_then n text.now) result out.new }
 {
     let next = text::put_decimal(out, at, n as u64);
     text::put(out, next, text)
@@ -67,7 +63,7 @@ fn number(out: &mut [u8; 72], at: usize, n: usize, text: &[u8]) -> usize
 // A name, a number and the text behind it.
 fn one_number(out: &mut [u8; 72], name: &[u8], n: usize, text: &[u8]) -> usize
     requires { length name.now + 20 + length text.now ≤ 72 }
-    ensures { Added out.old 0 (name.now ++ numbered n text.now) result out.new }
+    ensures { Added out.old 0 (name.now ++ number_then n text.now) result out.new }
 {
     let a = word(out, 0, name);
     number(out, a, n, text)
@@ -76,7 +72,8 @@ fn one_number(out: &mut [u8; 72], name: &[u8], n: usize, text: &[u8]) -> usize
 // The same with a second number, at the end of the line.
 fn two_numbers(out: &mut [u8; 72], name: &[u8], n: usize, text: &[u8], m: usize) -> usize
     requires { length name.now + 20 + length text.now + 21 ≤ 72 }
-    ensures { Added out.old 0 (name.now ++ numbered n text.now ++ numbered m newline) result out.new }
+    ensures { Added out.old 0 (name.now ++ number_then n text.now ++ number_then m newline)
+        result out.new }
 {
     let a = one_number(out, name, n, text);
     number(out, a, m, b"\n")
@@ -90,10 +87,10 @@ fn shape_line(out: &mut [u8; 72], index: usize, verbs: usize, points: usize) -> 
     number(out, c, points, b"\n")
 }
 
-/// The line's text, at the start of out; the answer is its length. No `Display`: its clause speaks where `fmt`
-/// answers Ok, and nothing says that it does, so that a text made by it is known as the line or as cut.
+// The line's text, at the start of out; the answer is its length. No `Display`: its clause speaks where `fmt`
+// answers Ok, and nothing says that it does, so that a text made by it is known as the line or as cut.
 #[tactic(auto, unfolding(crate::specs::Line::line_of))]
-pub fn text_of(line: Line, out: &mut [u8; 72]) -> usize
+fn text_of(line: Line, out: &mut [u8; 72]) -> usize
     ensures prefix_len { IsPrefixLen result out.new }
     ensures out_after { take result out.new ≡ line_of line }
 {
@@ -112,7 +109,8 @@ pub fn text_of(line: Line, out: &mut [u8; 72]) -> usize
 /// The line's text from index `at` on; the answer is the index past it.
 pub fn put_line(line: Line, out: &mut [u8; 393288], at: usize) -> usize
     requires { at + 72 ≤ 393288 }
-    ensures upper_bound { (result ≤ at + 72) × IsPrefixLen result out.new }
+    ensures upper_bound { result ≤ at + 72 }
+    ensures prefix_len { IsPrefixLen result out.new }
     ensures over { Over out.old at (line_of line) result out.new }
 {
     let mut line_text = [0u8; 72];
@@ -120,11 +118,12 @@ pub fn put_line(line: Line, out: &mut [u8; 393288], at: usize) -> usize
     text::put(out, at, &line_text[..n])
 }
 
-/// What a report tells of each record of a good file.
+/// What a report says of each record of a good file.
 pub trait Lines {
-    // A record's line, if it has one, from the counts of the records in front of it.
+    /// A record's line, if it has one, from the counts of the records in front of it.
     ghost line: { Self → Counts → Record → Option Line };
 
+    /// The line itself.
     fn line(&self, counts: Counts, record: Record) -> Option<Line>
         requires { counts.buttons + counts.touches < 5461 }
         ensures { result ≡ line self.now counts «record» };
@@ -143,10 +142,14 @@ fn put_any(line: Option<Line>, out: &mut [u8; 393288], at: usize) -> usize
     }
 }
 
-/// The lines of a good file's records, from the start of out; the answer is their length.
+/// The lines of a good file's records, from the start of out; the answer is their length. A line has at most 72 bytes
+/// and a record at least 12, so a file of 65,536 bytes has a report of at most 6 times its length, and the last line:
+/// an array of the largest size and no Vec, since the library has no heap.
 pub fn put_records<L: Lines>(lines: &L, file: &PanelFile, out: &mut [u8; 393288]) -> usize
-    ensures upper_bound { (result ≤ 393192) × IsPrefixLen result out.new }
-    ensures over { Over out.old 0 (text_of (lines_by (L.line lines.now) none_before (records file.now))) result out.new }
+    ensures upper_bound { result ≤ 393192 }
+    ensures prefix_len { IsPrefixLen result out.new }
+    ensures over { let lines = lines_by (L.line lines.now) none_before (records file.now) in
+        Over out.old 0 (text_of lines) result out.new }
 {
     let mut n = 0;
     let mut counts = Counts::default();

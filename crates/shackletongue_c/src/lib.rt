@@ -1,5 +1,5 @@
 //! The functions for programs in C and Rust, as include/shackletongue.h declares them: the static library that
-//! bindings/build makes. Each calls the function of the same name of one of the crates ffi, ffi_shape, ffi_path,
+//! bindings/build makes. Each calls the function of the same name of one of the crates ffi_floats, ffi_shape, ffi_path,
 //! ffi_outline, ffi_reader and ffi_panel, and promises what that one promises.
 
 #![tactic(auto)]

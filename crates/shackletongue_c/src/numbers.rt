@@ -1,4 +1,4 @@
-//! The float functions of the crate ffi.
+//! The functions of the crate ffi_floats.
 
 ghost use Rattle.std.specs.Prelude.{◌≡◌};
 ghost use Rattle.std.specs.Float.{binary32};
@@ -8,6 +8,7 @@ ghost use Rattle.exponential.specs.Power.{pow_of};
 ghost use Rattle.trigonometry.specs.Sine.{sin_cos_of, tan_of};
 ghost use Rattle.trigonometry.specs.Arctangent.{atan2_of};
 
+/// The single nearest to a double.
 #[unsafe(no_mangle)]
 pub extern "C" fn shackletongue_narrow(x: f64) -> f32
     ensures { result ≡ narrow_of x }
@@ -15,6 +16,7 @@ pub extern "C" fn shackletongue_narrow(x: f64) -> f32
     ffi_floats::shackletongue_narrow(x)
 }
 
+/// The square root.
 #[unsafe(no_mangle)]
 pub extern "C" fn shackletongue_sqrt(x: f32) -> f32
     ensures { result ≡ sqrt_of binary32 x }
@@ -22,6 +24,7 @@ pub extern "C" fn shackletongue_sqrt(x: f32) -> f32
     ffi_floats::shackletongue_sqrt(x)
 }
 
+/// b to the power y.
 #[unsafe(no_mangle)]
 pub extern "C" fn shackletongue_pow(b: f32, y: f32) -> f32
     ensures { result ≡ pow_of b y }
@@ -32,11 +35,13 @@ pub extern "C" fn shackletongue_pow(b: f32, y: f32) -> f32
 /// The sine and the cosine go to the two places lent.
 #[unsafe(no_mangle)]
 pub extern "C" fn shackletongue_sin_cos(t: f32, sin: &mut f32, cos: &mut f32)
-    ensures { (sin.new ≡ (sin_cos_of t).sin) × (cos.new ≡ (sin_cos_of t).cos) }
+    ensures sine { sin.new ≡ (sin_cos_of t).sin }
+    ensures cosine { cos.new ≡ (sin_cos_of t).cos }
 {
     ffi_floats::shackletongue_sin_cos(t, sin, cos);
 }
 
+/// The tangent.
 #[unsafe(no_mangle)]
 pub extern "C" fn shackletongue_tan(t: f32) -> f32
     ensures { result ≡ tan_of t }
@@ -44,6 +49,7 @@ pub extern "C" fn shackletongue_tan(t: f32) -> f32
     ffi_floats::shackletongue_tan(t)
 }
 
+/// The angle of the point (x, y).
 #[unsafe(no_mangle)]
 pub extern "C" fn shackletongue_atan2(y: f32, x: f32) -> f32
     ensures { result ≡ atan2_of y x }
@@ -51,7 +57,7 @@ pub extern "C" fn shackletongue_atan2(y: f32, x: f32) -> f32
     ffi_floats::shackletongue_atan2(y, x)
 }
 
-/// The version of the exported functions.
+/// The version of the exported functions, of all crates together.
 #[unsafe(no_mangle)]
 pub extern "C" fn shackletongue_version() -> u32
     ensures { result ≡ 1 }

@@ -14,7 +14,8 @@ pub extern "C" fn shackletongue_add_to(
     verbs: &mut [u8],
     points: &mut [f32],
 ) -> u32
-    ensures { path_answer result counts.new places.new verbs.new points.new ≡ add_of shape.now counts.old places.old verbs.old points.old }
+    ensures { path_answer result counts.new places.new verbs.new points.new
+        ≡ add_of shape.now counts.old places.old verbs.old points.old }
 {
     ffi_outline::shackletongue_add_to(shape, counts, places, verbs, points)
 }
@@ -39,7 +40,8 @@ pub extern "C" fn shackletongue_conic_need(
     weight: f32,
     need: &mut [u64],
 ) -> u32
-    ensures { needed result need.new ≡ conic_need_of counts.now places.now (point cx cy) (point x y) weight need.old }
+    ensures { needed result need.new
+        ≡ conic_need_of counts.now places.now (point cx cy) (point x y) weight need.old }
 {
     ffi_outline::shackletongue_conic_need(counts, places, cx, cy, x, y, weight, need)
 }

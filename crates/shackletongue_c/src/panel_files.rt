@@ -2,14 +2,14 @@
 
 ghost use Rattle.std.specs.Prelude.{◌≡◌};
 ghost use Rattle.octant.specs.Octant.{point};
-ghost use Rattle.ffi_panel.specs.Asking.{answered, left, record_of, place_of_touch, places_of_touches};
+ghost use Rattle.ffi_panel.specs.Asking.{place_left, slices_left, record_of, place_of_touch, places_of_touches};
 
 /// The record at the offset in place[0]: then place is the offset of the next one and the kind, 1 button,
 /// 2 touch, 0 at the end of the file; its 12 or 2 floats go to the front of floats. With a 7,
 /// place[0] is the offset of the first broken record.
 #[unsafe(no_mangle)]
 pub extern "C" fn shackletongue_record(file: &[u8], place: &mut [u64], floats: &mut [f32]) -> u32
-    ensures { left result place.new floats.new ≡ record_of file.now place.old floats.old }
+    ensures { slices_left result place.new floats.new ≡ record_of file.now place.old floats.old }
 {
     ffi_panel::shackletongue_record(file, place, floats)
 }
@@ -18,7 +18,7 @@ pub extern "C" fn shackletongue_record(file: &[u8], place: &mut [u64], floats: &
 /// nowhere; with a 7, place[0] is the offset of the first broken record.
 #[unsafe(no_mangle)]
 pub extern "C" fn shackletongue_touch(file: &[u8], x: f32, y: f32, place: &mut [u64]) -> u32
-    ensures { answered result place.new ≡ place_of_touch file.now (point x y) place.old }
+    ensures { place_left result place.new ≡ place_of_touch file.now (point x y) place.old }
 {
     ffi_panel::shackletongue_touch(file, x, y, place)
 }
@@ -32,7 +32,8 @@ pub extern "C" fn shackletongue_touch_all(
     results: &mut [u32],
     place: &mut [u64],
 ) -> u32
-    ensures { left result place.new results.new ≡ places_of_touches file.now results.old place.old }
+    ensures { slices_left result place.new results.new
+        ≡ places_of_touches file.now results.old place.old }
 {
     ffi_panel::shackletongue_touch_all(file, results, place)
 }

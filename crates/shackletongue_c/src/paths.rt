@@ -14,7 +14,9 @@ pub extern "C" fn shackletongue_move_to(
     x: f32,
     y: f32,
 ) -> u32
-    ensures { path_answer result counts.new places.new verbs.new points.new ≡ lent_step (Call.MoveTo (point x y)) counts.old places.old verbs.old points.old }
+    ensures { path_answer result counts.new places.new verbs.new points.new
+        ≡ lent_step (Call.MoveTo (point x y))
+        counts.old places.old verbs.old points.old }
 {
     ffi_path::shackletongue_move_to(counts, places, verbs, points, x, y)
 }
@@ -28,7 +30,9 @@ pub extern "C" fn shackletongue_line_to(
     x: f32,
     y: f32,
 ) -> u32
-    ensures { path_answer result counts.new places.new verbs.new points.new ≡ lent_step (Call.LineTo (point x y)) counts.old places.old verbs.old points.old }
+    ensures { path_answer result counts.new places.new verbs.new points.new
+        ≡ lent_step (Call.LineTo (point x y))
+        counts.old places.old verbs.old points.old }
 {
     ffi_path::shackletongue_line_to(counts, places, verbs, points, x, y)
 }
@@ -44,7 +48,9 @@ pub extern "C" fn shackletongue_quad_to(
     x: f32,
     y: f32,
 ) -> u32
-    ensures { path_answer result counts.new places.new verbs.new points.new ≡ lent_step (Call.QuadTo (point cx cy) (point x y)) counts.old places.old verbs.old points.old }
+    ensures { path_answer result counts.new places.new verbs.new points.new
+        ≡ lent_step (Call.QuadTo (point cx cy) (point x y))
+        counts.old places.old verbs.old points.old }
 {
     ffi_path::shackletongue_quad_to(counts, places, verbs, points, cx, cy, x, y)
 }
@@ -62,7 +68,9 @@ pub extern "C" fn shackletongue_conic_to(
     y: f32,
     weight: f32,
 ) -> u32
-    ensures { path_answer result counts.new places.new verbs.new points.new ≡ lent_step (Call.ConicTo (point cx cy) (point x y) weight) counts.old places.old verbs.old points.old }
+    ensures { path_answer result counts.new places.new verbs.new points.new
+        ≡ lent_step (Call.ConicTo (point cx cy) (point x y) weight)
+        counts.old places.old verbs.old points.old }
 {
     ffi_path::shackletongue_conic_to(counts, places, verbs, points, cx, cy, x, y, weight)
 }
@@ -80,7 +88,9 @@ pub extern "C" fn shackletongue_cubic_to(
     x: f32,
     y: f32,
 ) -> u32
-    ensures { path_answer result counts.new places.new verbs.new points.new ≡ lent_step (Call.CubicTo (point ax ay) (point bx by) (point x y)) counts.old places.old verbs.old points.old }
+    ensures { path_answer result counts.new places.new verbs.new points.new
+        ≡ lent_step (Call.CubicTo (point ax ay) (point bx by) (point x y))
+        counts.old places.old verbs.old points.old }
 {
     ffi_path::shackletongue_cubic_to(counts, places, verbs, points, ax, ay, bx, by, x, y)
 }
@@ -92,7 +102,9 @@ pub extern "C" fn shackletongue_close(
     verbs: &mut [u8],
     points: &mut [f32],
 ) -> u32
-    ensures { path_answer result counts.new places.new verbs.new points.new ≡ lent_step Call.Close counts.old places.old verbs.old points.old }
+    ensures { path_answer result counts.new places.new verbs.new points.new
+        ≡ lent_step Call.Close
+        counts.old places.old verbs.old points.old }
 {
     ffi_path::shackletongue_close(counts, places, verbs, points)
 }

@@ -14,7 +14,8 @@ pub extern "C" fn shackletongue_read(
     cursor: &mut [u64],
     segment: &mut [f32],
 ) -> u32
-    ensures { read_answer result cursor.new segment.new ≡ read_of counts.now places.now verbs.now points.now cursor.old segment.old }
+    ensures { read_answer result cursor.new segment.new
+        ≡ read_of counts.now places.now verbs.now points.now cursor.old segment.old }
 {
     ffi_reader::shackletongue_read(counts, places, verbs, points, cursor, segment)
 }
@@ -30,7 +31,8 @@ pub extern "C" fn shackletongue_box(
     rect: &mut [f32],
     place: &mut [u64],
 ) -> u32
-    ensures { box_answer result rect.new place.new ≡ box_of counts.now places.now verbs.now points.now rect.old place.old }
+    ensures { box_answer result rect.new place.new
+        ≡ box_of counts.now places.now verbs.now points.now rect.old place.old }
 {
     ffi_reader::shackletongue_box(counts, places, verbs, points, rect, place)
 }

@@ -1,4 +1,3 @@
-pub mod Decimals
 pub mod Patterns
 pub mod Placing
 pub mod Scanning

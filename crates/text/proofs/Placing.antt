@@ -1,17 +1,16 @@
 -- A text written into a buffer, and how many digits a number takes. Assumes nothing.
 use Prim.Native.Nat.{ℕ, zero, suc, ◌+◌, ◌-◌, ◌^◌, ◌≤◌, ◌<◌}
 use mathlib.Core.Path.{◌≡◌, refl, sym, subst}
-use mathlib.Core.Bool.{Bool, true, false, not, cond}
+use mathlib.Core.Bool.{Bool, true, false, cond}
 use mathlib.Core.List.{List}
 use native.Mathlib.Nat.{le_antisymm, lt_of_lt_of_le, pow-le-pow_right}
 use native.Mathlib.Omega.{arith}
 use borrow.Author.Tests.{le-leb, lt-leb, ltb-true, ltb-false}
-use lib.Dec.{T, ltb, lit<, lit≤}
+use lib.Dec.{ltb, lit<, lit≤}
 use lib.ListN.{length}
 use lib.Seq.{paste, take-length}
-use lib.Ieee.{Float, nan, inf, fin, binary32, binary64, to_bits, is_nan}
-use Rattle.io.specs.Digits.{last_digits, IsDigitCount}
-use Rattle.text.specs.Written.{Wrote, put_text, past_text, places, bits_of, float_text, single_text, double_text}
+use Rattle.io.specs.Digits.{IsDigitCount}
+use Rattle.text.specs.Written.{Wrote, put_text, past_text, places}
 
 module _ (l : List ℕ) (at : ℕ) (t : List ℕ) where
   pub no_room : length l < at + length t → Wrote l at t at l
@@ -61,16 +60,3 @@ pub decimal_places : (n k : ℕ) → n < 2 ^ 64 → IsDigitCount 10 1 n k → pl
 decimal_places n k h f =
     let most : k ≤ 20 = not_more 10 n 20 k (lit< tt) (lt_of_lt_of_le h (lit≤ tt)) (λ g. f.2 (omega arith)) in
     places_is 19 1 n k f.0 (omega arith) f.1 f.2
-
--- the text of a float that is no NaN
-pub single_text_lem : (x : Float) → T (not (is_nan x)) → single_text x ≡ last_digits 16 8 (to_bits binary32 x)
-unfolding float_text bits_of is_nan
-single_text_lem nan t = absurd t
-single_text_lem (inf s) t = refl
-single_text_lem (fin s m e) t = refl
-
-pub double_text_lem : (x : Float) → T (not (is_nan x)) → double_text x ≡ last_digits 16 16 (to_bits binary64 x)
-unfolding float_text bits_of is_nan
-double_text_lem nan t = absurd t
-double_text_lem (inf s) t = refl
-double_text_lem (fin s m e) t = refl

@@ -1,9 +1,8 @@
 -- Counting the elements in front that pass a test. Assumes nothing.
-use Rattle.std.proofs.Common.{◌≡◌, ℕ, ◌-◌, ◌≤◌, ◌<◌, Bool, true, false, not, cond, List, [], ◌∷◌, length, take, drop, refl, sym, ◌∙◌, arith, ◌+◌, nat_lt, Some, None, zero, suc}
+use Rattle.std.proofs.Common.{◌≡◌, ℕ, ◌≤◌, ◌<◌, Bool, true, false, not, cond, List, [], ◌∷◌, length, take, drop, refl, sym, ◌∙◌, arith, ◌+◌, nat_lt, Some, None, zero, suc}
 use Rattle.std.proofs.lemmas.Bool.Decides.{nat_tests}
 use Rattle.std.specs.Option.{unwrap_or}
 use lib.ListN.{length-drop}
-use lib.Seq.{take_all}
 use Rattle.std.proofs.lemmas.List.Sums.{prefix_len-le-length}
 use Rattle.std.specs.List.{prefix_len, position}
 use Rattle.text.specs.Words.{belongs_to, after_blanks, first_word, after_word}
@@ -28,10 +27,6 @@ leading_is p s = go (prefix_len (λ x. not (not (p x))) s) (up_to_failing p s) (
         by : (t : Bool) → nat_lt n (length s) ≡ t → unwrap_or (cond t (Some n) None) (length s) ≡ prefix_len p s
         by true k = e
         by false k = grind (arith, nat_tests)
-
--- a part from n on to the end
-pub whole-rest : (n : ℕ) (s : List ℕ) → take (length s - n) (drop n s) ≡ drop n s
-whole-rest n s = take_all (length s - n) (drop n s) (rw (length-drop) (omega arith))
 
 pub no_longer : (s : List ℕ) → length (after_blanks s) ≤ length s
 unfolding after_blanks

@@ -1,15 +1,21 @@
--- What a word spells: a number below 2 ^ 64 in decimal or lower-case hexadecimal digits, or a float by its bits. Definitions only.
+-- What a word spells: a number below 2 ^ 64 in decimal or lower-case hexadecimal digits, or a float by its bits.
+-- Definitions only.
 use Rattle.std.specs.Prelude.{ℕ, ◌+◌, ◌-◌, ◌*◌, ◌^◌, List, [], ◌∷◌, length, nat_le, nat_lt, Float, Option, Some, None, if◌then◌else◌, ◌==◌, codes}
-use Rattle.std.specs.Float.{nan, binary32, binary64}
+use Rattle.std.specs.Float.{nan, binary32}
 use Rattle.std.specs.Float.Ieee.{of_bits}
 use Rattle.std.specs.Option.{option_map}
 use Rattle.std.specs.Str.{bytes_eq}
 
 -- the value of a digit, `0` to `9` and `a` to `f`; none of any other byte
 unfoldable pub digit_of : ℕ → Option ℕ
-digit_of b = if nat_lt b 48 then None else (if nat_le b 57 then Some (b - 48) else (if nat_lt b 97 then None else (if nat_le b 102 then Some (b - 97 + 10) else None)))
+digit_of b =
+    if nat_lt b 48 then None
+    else (if nat_le b 57 then Some (b - 48)
+    else (if nat_lt b 97 then None
+    else (if nat_le b 102 then Some (b - 97 + 10) else None)))
 
--- the number n with one digit more behind it: none where the byte is no digit of the base, or the number is 2 ^ 64 or more
+-- the number n with one digit more behind it: none where the byte is no digit of the base, or the number is 2 ^ 64 or
+-- more
 unfoldable pub with_digit : ℕ → ℕ → ℕ → Option ℕ
 with_digit base n b =
     elim (digit_of b) [
@@ -32,12 +38,10 @@ nan_text = codes "nan"
 
 -- `nan`, or the hexadecimal digits, so many, of the bits of a float
 unfoldable pub float_of : {A : Type 0} → ℕ → (ℕ → A) → A → List ℕ → Option A
-float_of digits of_bits no_number s = if bytes_eq s nan_text then Some no_number else (if length s == digits then option_map of_bits (number_of 16 s) else None)
+float_of digits of_bits no_number s =
+    if bytes_eq s nan_text then Some no_number
+    else (if length s == digits then option_map of_bits (number_of 16 s) else None)
 
 -- `nan`, or the 8 hexadecimal digits of the bits of an `f32`
 abbrev pub single_of : List ℕ → Option Float
 single_of = float_of 8 (of_bits binary32) nan
-
--- `nan`, or the 16 hexadecimal digits of the bits of an `f64`
-abbrev pub double_of : List ℕ → Option Float
-double_of = float_of 16 (of_bits binary64) nan

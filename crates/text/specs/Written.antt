@@ -1,6 +1,6 @@
 -- Numbers and floats as text, and what a buffer holds after a text was written into it. Definitions only.
 use Rattle.std.specs.Prelude.{ℕ, zero, suc, ◌+◌, ◌^◌, ◌≡◌, List, ◌++◌, length, take, drop, nat_le, nat_lt, Float, Option, Some, None, if◌then◌else◌}
-use Rattle.std.specs.Float.{Format, binary32, binary64}
+use Rattle.std.specs.Float.{Format, binary32}
 use Rattle.std.specs.Float.Ieee.{to_bits, is_nan}
 use Rattle.io.specs.Digits.{last_digits}
 use Rattle.text.specs.Numbers.{nan_text}
@@ -39,8 +39,6 @@ bits_of f x = if is_nan x then None else Some (to_bits f x)
 unfoldable pub float_text : {A : Type 0} → ℕ → (A → Option ℕ) → A → List ℕ
 float_text digits bits x = elim (bits x) [ None ↦ nan_text | Some n ↦ last_digits 16 digits n ]
 
+-- the text of an `f32`
 abbrev pub single_text : Float → List ℕ
 single_text = float_text 8 (bits_of binary32)
-
-abbrev pub double_text : Float → List ℕ
-double_text = float_text 16 (bits_of binary64)

@@ -1,27 +1,27 @@
-// A float as a word: `nan`, or all hexadecimal digits of its bits.
+//! A float as a word: `nan`, or all hexadecimal digits of its bits.
 ghost use Rattle.std.specs.Prelude.{◌≡◌, ℕ, ◌^◌, ◌<◌, ◌≤◌, Option, Some, IfSome};
 ghost use Rattle.std.specs.Float.{nan, binary32, binary64};
 ghost use Rattle.std.specs.Float.Ieee.{of_bits};
 ghost use Rattle.std.specs.Fmt.{WritesOnOk};
 ghost use Rattle.io.specs.Digits.{last_digits};
 ghost use Rattle.text.specs.Numbers.{float_of};
-ghost use Rattle.text.specs.Written.{Wrote, hexadecimal_text, bits_of, float_text};
+ghost use Rattle.text.specs.Written.{hexadecimal_text, bits_of, float_text};
 ghost use Rattle.std.proofs.Common.{lit≤};
 
 use crate::numbers::read_number;
-use crate::output::put;
 use std::num::{f32_from_bits_with_nan, f64_from_bits_with_nan};
 use std::{fmt, str};
 
+/// A float that a word spells.
 pub trait FloatWord: Copy {
-    // How many digits its bits have.
+    /// How many digits its bits have.
     ghost DIGITS: { ℕ };
 
     ghost nan: { Self };
 
     ghost of_bits: { ℕ → Self };
 
-    // None of a NaN.
+    /// None of a NaN.
     ghost bits_of: { Self → Option ℕ };
 
     const DIGITS: usize;
@@ -137,26 +137,6 @@ fn write_digits<W: fmt::Write>(f: &mut fmt::Formatter<W>, n: u64, digits: usize)
         return Err(fmt::Error);
     };
     f.write_str(text)
-}
-
-/// All 16 digits of a number, written as `put` writes.
-#[tactic(auto, unfolding(crate::specs::Written::hexadecimal_text))]
-pub fn put_hexadecimal(out: &mut [u8], at: usize, n: u64) -> usize
-    ensures { Wrote out.old at (hexadecimal_text n) result out.new }
-{
-    put(out, at, digits_in(&mut [0u8; 16], n, 16))
-}
-
-/// A float as a word, written as `put` writes. Of an f32 the text is `single_text`, of an f64
-/// `double_text`, which are these words.
-#[tactic(auto, unfolding(crate::specs::Written::float_text))]
-pub fn put_float<F: FloatWord>(out: &mut [u8], at: usize, x: F) -> usize
-    ensures { Wrote out.old at (float_text F.DIGITS F.bits_of x) result out.new }
-{
-    match x.bits() {
-        Some(bits) => put(out, at, digits_in(&mut [0u8; 16], bits, F::DIGITS)),
-        None => put(out, at, b"nan"),
-    }
 }
 
 /// All 16 digits of a number.

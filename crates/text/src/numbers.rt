@@ -1,4 +1,4 @@
-// What a word spells: a number.
+//! What a word spells: a number.
 ghost use Rattle.std.specs.Prelude.{◌≡◌};
 ghost use Rattle.text.specs.Numbers.{digit_of, with_digit, number_of};
 

@@ -1,7 +1,7 @@
-// Texts and numbers written into a lent buffer. A writer takes the index to write at and gives the
-// index past its text; where there is no room for all of it, nothing is written and the index is the
-// same. It stays an index and no Option: who writes one text behind another goes on at it, so that
-// reports, replies and copies would each turn a None back into the index that they had.
+//! Texts and numbers written into a lent buffer. A writer takes the index to write at and gives the
+//! index past its text; where there is no room for all of it, nothing is written and the index is the
+//! same. It stays an index and no Option: who writes one text behind another goes on at it, so that
+//! reports, replies and copies would each turn a None back into the index that they had.
 ghost use Rattle.std.specs.Prelude.{◌≡◌, ◌+◌, ◌≤◌, length};
 ghost use Rattle.std.proofs.Math.Seq.{paste};
 ghost use Rattle.text.specs.Written.{Wrote, decimal_text};
@@ -13,6 +13,7 @@ fn copy(out: &mut [u8], at: usize, text: &[u8])
     out[at..at + text.len()].copy_from_slice(text);
 }
 
+/// A text, written from the index on.
 pub fn put(out: &mut [u8], at: usize, text: &[u8]) -> usize
     ensures { Wrote out.old at text.now result out.new }
 {
@@ -26,6 +27,7 @@ pub fn put(out: &mut [u8], at: usize, text: &[u8]) -> usize
     at + text.len()
 }
 
+/// A number's decimal digits, written from the index on.
 pub fn put_decimal(out: &mut [u8], at: usize, n: u64) -> usize
     ensures { Wrote out.old at (decimal_text n) result out.new }
 {

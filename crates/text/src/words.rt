@@ -1,9 +1,7 @@
-// The words of a line, and where a line ends.
-ghost use Rattle.std.specs.Prelude.{◌≡◌, ◌≤◌, length};
+//! The words of a line, and where a line ends.
+ghost use Rattle.std.specs.Prelude.{◌≡◌, ◌<◌, ◌≤◌, not, length, IfNone, IfSome};
 ghost use Rattle.std.specs.List.{position};
-ghost use Rattle.std.specs.Prelude.{not};
 ghost use Rattle.text.specs.Words.{belongs_to, leading_of, after_blanks, first_word, after_word};
-ghost use Rattle.std.specs.Prelude.{◌<◌, MatchOption, IfSome};
 
 /// What a byte of a line may belong to.
 #[derive(Clone, Copy)]
@@ -51,8 +49,11 @@ fn after_blanks(s: &[u8]) -> &[u8]
 /// The first word of a line, and what follows it; none where the line has no word.
 #[tactic(auto, unfolding(crate::specs::Words::first_word, crate::specs::Words::after_word))]
 pub fn split_word(s: &[u8]) -> Option<(&[u8], &[u8])>
-    ensures parts { MatchOption result (length (first_word s.now) ≡ 0) (λ p. (p.0.now ≡ first_word s.now) × (p.1.now ≡ after_word s.now)) }
-    ensures some { IfSome result (λ p. (length (first_word s.now) ≡ 0 → ⊥) × (length p.1.now < length s.now)) }
+    ensures none { IfNone result (length (first_word s.now) ≡ 0) }
+    ensures word { IfSome result (λ p. p.0.now ≡ first_word s.now) }
+    ensures rest { IfSome result (λ p. p.1.now ≡ after_word s.now) }
+    ensures some { IfSome result (λ p. length (first_word s.now) ≡ 0 → ⊥) }
+    ensures shorter { IfSome result (λ p. length p.1.now < length s.now) }
 {
     let t = after_blanks(s);
     let n = leading(t, Class::Word);

@@ -10,7 +10,7 @@ use Rattle.geometry.specs.declared.Point.{Point}
 use Rattle.panel_file.specs.declared.Record.{Record}
 use Rattle.panel_file.specs.declared.Record.TheVariants.{Button as ButtonRecord, Touch as TouchRecord}
 use Rattle.panel_file.specs.Panel.{touches_of}
-use Rattle.touch.specs.Search.{floats_of, points_in, next_count, kept_in}
+use Rattle.touch.specs.Search.{floats_of, points_in, count_after_record, floats_after_record}
 
 abbrev point : Float → Float → Point
 point a b = record { x = a; y = b }
@@ -56,30 +56,30 @@ two_behind fs i a b h =
     ∙ append_assoc (take i fs) (a ∷ []) (b ∷ [])
 
 -- all floats are those held and those of the records to come
-pub kept_more : (r : Record) (rs : List Record) (n : ℕ) (fs : List Float) → 2 * n + 1 < length fs
-    → take (2 * n) fs ++ floats_of (touches_of (r ∷ rs)) ≡ take (2 * next_count r n) (kept_in r n fs) ++ floats_of (touches_of rs)
-unfolding touches_of next_count kept_in floats_of
-kept_more (ButtonRecord q) rs n fs h = refl
-kept_more (TouchRecord p) rs n fs h =
+pub floats_after_record-more : (r : Record) (rs : List Record) (n : ℕ) (fs : List Float) → 2 * n + 1 < length fs
+    → take (2 * n) fs ++ floats_of (touches_of (r ∷ rs)) ≡ take (2 * count_after_record r n) (floats_after_record r n fs) ++ floats_of (touches_of rs)
+unfolding touches_of count_after_record floats_after_record floats_of
+floats_after_record-more (ButtonRecord q) rs n fs h = refl
+floats_after_record-more (TouchRecord p) rs n fs h =
     let e : 2 * (n + 1) ≡ 2 * n + 2 = omega arith in
     sym
     (ap (λ (k : ℕ). take k (set (set fs (2 * n) p.x) (2 * n + 1) p.y) ++ floats_of (touches_of rs)) e
     ∙ ap (λ (gs : List Float). gs ++ floats_of (touches_of rs)) (two_behind fs (2 * n) p.x p.y h)
     ∙ append_assoc (take (2 * n) fs) (p.x ∷ p.y ∷ []) (floats_of (touches_of rs)))
 
-pub kept_length : (r : Record) (n : ℕ) (fs : List Float) → length (kept_in r n fs) ≡ length fs
-unfolding kept_in
-kept_length (ButtonRecord q) n fs = refl
-kept_length (TouchRecord p) n fs = simp length-set
+pub length-floats_after_record : (r : Record) (n : ℕ) (fs : List Float) → length (floats_after_record r n fs) ≡ length fs
+unfolding floats_after_record
+length-floats_after_record (ButtonRecord q) n fs = refl
+length-floats_after_record (TouchRecord p) n fs = simp length-set
 
-pub count_most : (r : Record) (n : ℕ) → next_count r n ≤ n + 1
-unfolding next_count
-count_most (ButtonRecord q) n = omega arith
-count_most (TouchRecord p) n = omega arith
+pub count_after_record-most : (r : Record) (n : ℕ) → count_after_record r n ≤ n + 1
+unfolding count_after_record
+count_after_record-most (ButtonRecord q) n = omega arith
+count_after_record-most (TouchRecord p) n = omega arith
 
 -- the points that were held are all, where none are to come
-pub all_kept : (ps : List Point) (n : ℕ) (fs : List Float) → 2 * n ≤ length fs → floats_of ps ≡ take (2 * n) fs ++ [] → take (2 * length ps) fs ≡ floats_of ps
-all_kept ps n fs h e =
+pub all_floats : (ps : List Point) (n : ℕ) (fs : List Float) → 2 * n ≤ length fs → floats_of ps ≡ take (2 * n) fs ++ [] → take (2 * length ps) fs ≡ floats_of ps
+all_floats ps n fs h e =
     let f : floats_of ps ≡ take (2 * n) fs = e ∙ append-nil (take (2 * n) fs) in
     let l : 2 * length ps ≡ 2 * n = sym (floats-length ps) ∙ ap length f ∙ length-take-le (2 * n) fs h in
     ap (λ (k : ℕ). take k fs) l ∙ sym f

@@ -14,8 +14,8 @@ use Rattle.panel_file.specs.declared.Record.{Record}
 use Rattle.panel_file.specs.declared.Record.TheVariants.{Button as ButtonRecord, Touch as TouchRecord}
 use Rattle.panel_file.specs.Panel.{buttons_of}
 use Rattle.shape.specs.Refusal.{ShapeOutcome}
-use Rattle.touch.specs.Touch.{Place, button, nowhere, nowhere_code, code_of, place_of, settle, seek, shape_of, shapes_of, takes}
-use Rattle.touch.specs.Search.{points_in, marked, passes, next_index, looked_at}
+use Rattle.touch.specs.Touch.{Place, button, nowhere, nowhere_code, code_of, place_of, first_hit, place_from, shape_of, shapes_of, takes}
+use Rattle.touch.specs.Search.{points_in, places_after_shape, places_after_shapes, index_after_record, places_after_record}
 use Rattle.touch.proofs.Gathering.{points-length, point_at}
 
 -- ---- places as numbers
@@ -45,102 +45,102 @@ place_code at_none = refl
 
 -- ---- one shape and all touches
 
-pub marked-length : (hit : Point → Bool) (k : ℕ) (ps : List Point) (found : List ℕ) → length (marked hit k ps found) ≡ length found
-unfolding marked
-marked-length hit k [] found = refl
-marked-length hit k (p ∷ ps) [] = refl
-marked-length hit k (p ∷ ps) (n ∷ found) = ap suc (marked-length hit k ps found)
+pub length-places_after_shape : (hit : Point → Bool) (k : ℕ) (ps : List Point) (found : List ℕ) → length (places_after_shape hit k ps found) ≡ length found
+unfolding places_after_shape
+length-places_after_shape hit k [] found = refl
+length-places_after_shape hit k (p ∷ ps) [] = refl
+length-places_after_shape hit k (p ∷ ps) (n ∷ found) = ap suc (length-places_after_shape hit k ps found)
 
 -- one touch more
-pub marked_more : (hit : Point → Bool) (k : ℕ) (ps : List Point) (found : List ℕ) (i : ℕ) (d : Point) → i < length ps → i < length found
-    → marked hit k (take (suc i) ps) found
-    ≡ set (marked hit k (take i ps) found) i (code_of (settle (place_of (get_or (marked hit k (take i ps) found) i 0)) k (hit (get_or ps i d))))
-unfolding marked
-marked_more hit k [] found i d h l = absurd (omega arith)
-marked_more hit k (p ∷ ps) [] i d h l = absurd (omega arith)
-marked_more hit k (p ∷ ps) (n ∷ found) zero d h l = refl
-marked_more hit k (p ∷ ps) (n ∷ found) (suc i) d h l =
-    ap (λ (ns : List ℕ). code_of (settle (place_of n) k (hit p)) ∷ ns) (marked_more hit k ps found i d (omega arith) (omega arith))
+pub places_after_shape-more : (hit : Point → Bool) (k : ℕ) (ps : List Point) (found : List ℕ) (i : ℕ) (d : Point) → i < length ps → i < length found
+    → places_after_shape hit k (take (suc i) ps) found
+    ≡ set (places_after_shape hit k (take i ps) found) i (code_of (first_hit (place_of (get_or (places_after_shape hit k (take i ps) found) i 0)) k (hit (get_or ps i d))))
+unfolding places_after_shape
+places_after_shape-more hit k [] found i d h l = absurd (omega arith)
+places_after_shape-more hit k (p ∷ ps) [] i d h l = absurd (omega arith)
+places_after_shape-more hit k (p ∷ ps) (n ∷ found) zero d h l = refl
+places_after_shape-more hit k (p ∷ ps) (n ∷ found) (suc i) d h l =
+    ap (λ (ns : List ℕ). code_of (first_hit (place_of n) k (hit p)) ∷ ns) (places_after_shape-more hit k ps found i d (omega arith) (omega arith))
 
 -- the same with the points as floats
-pub marked-floats : (hit : Point → Bool) (k : ℕ) (fs : List Float) (found : List ℕ) (i : ℕ) (d : Float) → length fs ≡ 2 * length found → i < length found →
-    let now = marked hit k (take i (points_in fs)) found in
+pub places_after_shape-floats : (hit : Point → Bool) (k : ℕ) (fs : List Float) (found : List ℕ) (i : ℕ) (d : Float) → length fs ≡ 2 * length found → i < length found →
+    let now = places_after_shape hit k (take i (points_in fs)) found in
     let p : Point = record { x = get_or fs (2 * i) d; y = get_or fs (2 * i + 1) d } in
-    set now i (code_of (settle (place_of (get_or now i 0)) k (hit p))) ≡ marked hit k (take (i + 1) (points_in fs)) found
-marked-floats hit k fs found i d e h =
-    let now = marked hit k (take i (points_in fs)) found in
+    set now i (code_of (first_hit (place_of (get_or now i 0)) k (hit p))) ≡ places_after_shape hit k (take (i + 1) (points_in fs)) found
+places_after_shape-floats hit k fs found i d e h =
+    let now = places_after_shape hit k (take i (points_in fs)) found in
     let l = points-length fs (length found) e in
-    ap (λ (q : Point). set now i (code_of (settle (place_of (get_or now i 0)) k (hit q)))) (sym (point_at fs i d (omega arith)))
-    ∙ sym (marked_more hit k (points_in fs) found i (record { x = d; y = d }) (omega arith) h)
-    ∙ ap (λ (n : ℕ). marked hit k (take n (points_in fs)) found) (sym (add-one i))
+    ap (λ (q : Point). set now i (code_of (first_hit (place_of (get_or now i 0)) k (hit q)))) (sym (point_at fs i d (omega arith)))
+    ∙ sym (places_after_shape-more hit k (points_in fs) found i (record { x = d; y = d }) (omega arith) h)
+    ∙ ap (λ (n : ℕ). places_after_shape hit k (take n (points_in fs)) found) (sym (add-one i))
 
-settle_no : (pl : Place) (k : ℕ) → settle pl k false ≡ pl
-unfolding settle
-settle_no (button i) k = refl
-settle_no nowhere k = refl
+first_hit-no : (pl : Place) (k : ℕ) → first_hit pl k false ≡ pl
+unfolding first_hit
+first_hit-no (button i) k = refl
+first_hit-no nowhere k = refl
 
 -- a shape that takes no touch changes no place
-pub marked-none : (hit : Point → Bool) (k : ℕ) (ps : List Point) (found : List ℕ) → ((p : Point) → hit p ≡ false) → marked hit k ps found ≡ found
-unfolding marked
-marked-none hit k [] found misses = refl
-marked-none hit k (p ∷ ps) [] misses = refl
-marked-none hit k (p ∷ ps) (n ∷ found) misses =
-    let e : code_of (settle (place_of n) k (hit p)) ≡ n = ap (λ (b : Bool). code_of (settle (place_of n) k b)) (misses p) ∙ ap code_of (settle_no (place_of n) k) ∙ code_place n in
-    let f = marked-none hit k ps found misses in
+pub places_after_shape-none : (hit : Point → Bool) (k : ℕ) (ps : List Point) (found : List ℕ) → ((p : Point) → hit p ≡ false) → places_after_shape hit k ps found ≡ found
+unfolding places_after_shape
+places_after_shape-none hit k [] found misses = refl
+places_after_shape-none hit k (p ∷ ps) [] misses = refl
+places_after_shape-none hit k (p ∷ ps) (n ∷ found) misses =
+    let e : code_of (first_hit (place_of n) k (hit p)) ≡ n = ap (λ (b : Bool). code_of (first_hit (place_of n) k b)) (misses p) ∙ ap code_of (first_hit-no (place_of n) k) ∙ code_place n in
+    let f = places_after_shape-none hit k ps found misses in
     cc
 
 -- ---- all shapes and all touches
 
 -- the first record, then the others
-pub passes_record : (ps : List Point) (k : ℕ) (r : Record) (rs : List Record) (found : List ℕ)
-    → passes ps k (shapes_of (r ∷ rs)) found ≡ passes ps (next_index r k) (shapes_of rs) (looked_at r k ps found)
-unfolding passes shapes_of buttons_of next_index looked_at
-passes_record ps k (ButtonRecord b) rs found = rw (add-one k)
-passes_record ps k (TouchRecord p) rs found = refl
+pub places_after_shapes-record : (ps : List Point) (k : ℕ) (r : Record) (rs : List Record) (found : List ℕ)
+    → places_after_shapes ps k (shapes_of (r ∷ rs)) found ≡ places_after_shapes ps (index_after_record r k) (shapes_of rs) (places_after_record r k ps found)
+unfolding places_after_shapes shapes_of buttons_of index_after_record places_after_record
+places_after_shapes-record ps k (ButtonRecord b) rs found = rw (add-one k)
+places_after_shapes-record ps k (TouchRecord p) rs found = refl
 
-pub index_most : (r : Record) (k : ℕ) → next_index r k ≤ k + 1
-unfolding next_index
-index_most (ButtonRecord b) k = omega arith
-index_most (TouchRecord p) k = omega arith
+pub index_after_record-most : (r : Record) (k : ℕ) → index_after_record r k ≤ k + 1
+unfolding index_after_record
+index_after_record-most (ButtonRecord b) k = omega arith
+index_after_record-most (TouchRecord p) k = omega arith
 
-pub looked_length : (r : Record) (k : ℕ) (ps : List Point) (found : List ℕ) → length (looked_at r k ps found) ≡ length found
-unfolding looked_at
-looked_length (ButtonRecord b) k ps found = marked-length (takes (shape_of b)) k ps found
-looked_length (TouchRecord p) k ps found = refl
+pub length-places_after_record : (r : Record) (k : ℕ) (ps : List Point) (found : List ℕ) → length (places_after_record r k ps found) ≡ length found
+unfolding places_after_record
+length-places_after_record (ButtonRecord b) k ps found = length-places_after_shape (takes (shape_of b)) k ps found
+length-places_after_record (TouchRecord p) k ps found = refl
 
-pub passes-end : (ps : List Point) (k : ℕ) (found : List ℕ) → passes ps k (shapes_of []) found ≡ found
-unfolding passes shapes_of buttons_of
-passes-end ps k found = refl
+pub places_after_shapes-end : (ps : List Point) (k : ℕ) (found : List ℕ) → places_after_shapes ps k (shapes_of []) found ≡ found
+unfolding places_after_shapes shapes_of buttons_of
+places_after_shapes-end ps k found = refl
 
 -- the touches one by one: no matter whether the shapes or the touches are gone through first
-settle-below : {n k : ℕ} (b : Bool) {pl : Place} → Below n pl → k < n → Below n (settle pl k b)
-unfolding settle
-settle-below b (at-button h) l = at-button h
-settle-below true at_none l = at-button l
-settle-below false at_none l = at_none
+first_hit-below : {n k : ℕ} (b : Bool) {pl : Place} → Below n pl → k < n → Below n (first_hit pl k b)
+unfolding first_hit
+first_hit-below b (at-button h) l = at-button h
+first_hit-below true at_none l = at-button l
+first_hit-below false at_none l = at_none
 
-pub seek-below : (p : Point) {n : ℕ} (k : ℕ) (ss : List ShapeOutcome) {pl : Place} → Below n pl → k + length ss ≤ n → Below n (seek p pl k ss)
-unfolding seek
-seek-below p k [] h l = h
-seek-below p k (s ∷ ss) h l = seek-below p (suc k) ss (settle-below (takes s p) h (omega arith)) (omega arith)
+pub place_from-below : (p : Point) {n : ℕ} (k : ℕ) (ss : List ShapeOutcome) {pl : Place} → Below n pl → k + length ss ≤ n → Below n (place_from p pl k ss)
+unfolding place_from
+place_from-below p k [] h l = h
+place_from-below p k (s ∷ ss) h l = place_from-below p (suc k) ss (first_hit-below (takes s p) h (omega arith)) (omega arith)
 
-passes_none : (k : ℕ) (ss : List ShapeOutcome) → passes [] k ss [] ≡ []
-unfolding passes marked
-passes_none k [] = refl
-passes_none k (s ∷ ss) = passes_none (suc k) ss
+places_after_shapes-none : (k : ℕ) (ss : List ShapeOutcome) → places_after_shapes [] k ss [] ≡ []
+unfolding places_after_shapes places_after_shape
+places_after_shapes-none k [] = refl
+places_after_shapes-none k (s ∷ ss) = places_after_shapes-none (suc k) ss
 
-passes_first : (p : Point) (ps : List Point) (k : ℕ) (ss : List ShapeOutcome) (pl : Place) (found : List ℕ) → Below nowhere_code pl → k + length ss ≤ nowhere_code
-    → passes (p ∷ ps) k ss (code_of pl ∷ found) ≡ code_of (seek p pl k ss) ∷ passes ps k ss found
-unfolding passes marked seek
-passes_first p ps k [] pl found h l = refl
-passes_first p ps k (s ∷ ss) pl found h l =
-    rw (place_code h) (passes_first p ps (suc k) ss (settle pl k (takes s p)) (marked (takes s) k ps found) (settle-below (takes s p) h (omega arith)) (omega arith))
+places_after_shapes-first : (p : Point) (ps : List Point) (k : ℕ) (ss : List ShapeOutcome) (pl : Place) (found : List ℕ) → Below nowhere_code pl → k + length ss ≤ nowhere_code
+    → places_after_shapes (p ∷ ps) k ss (code_of pl ∷ found) ≡ code_of (place_from p pl k ss) ∷ places_after_shapes ps k ss found
+unfolding places_after_shapes places_after_shape place_from
+places_after_shapes-first p ps k [] pl found h l = refl
+places_after_shapes-first p ps k (s ∷ ss) pl found h l =
+    rw (place_code h) (places_after_shapes-first p ps (suc k) ss (first_hit pl k (takes s p)) (places_after_shape (takes s) k ps found) (first_hit-below (takes s p) h (omega arith)) (omega arith))
 
 -- the places of all touches, from none on
-pub passes-places : (ps : List Point) (ss : List ShapeOutcome) → length ss ≤ nowhere_code
-    → passes ps 0 ss (replicate (length ps) nowhere_code) ≡ map (λ p. code_of (seek p nowhere 0 ss)) ps
+pub places_after_shapes-places : (ps : List Point) (ss : List ShapeOutcome) → length ss ≤ nowhere_code
+    → places_after_shapes ps 0 ss (replicate (length ps) nowhere_code) ≡ map (λ p. code_of (place_from p nowhere 0 ss)) ps
 unfolding code_of
-passes-places [] ss l = passes_none 0 ss
-passes-places (p ∷ ps) ss l =
-    passes_first p ps 0 ss nowhere (replicate (length ps) nowhere_code) at_none (omega arith)
-    ∙ ap (λ (ns : List ℕ). code_of (seek p nowhere 0 ss) ∷ ns) (passes-places ps ss l)
+places_after_shapes-places [] ss l = places_after_shapes-none 0 ss
+places_after_shapes-places (p ∷ ps) ss l =
+    places_after_shapes-first p ps 0 ss nowhere (replicate (length ps) nowhere_code) at_none (omega arith)
+    ∙ ap (λ (ns : List ℕ). code_of (place_from p nowhere 0 ss) ∷ ns) (places_after_shapes-places ps ss l)

@@ -1,2 +1,5 @@
 pub mod Touch
 pub mod Search
+pub use Rattle.panel_file.specs.File
+pub use Rattle.panel_file.specs.Panel
+pub use Rattle.shape.specs.Refusal

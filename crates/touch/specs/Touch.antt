@@ -1,4 +1,4 @@
--- Document 01's module 7: which button of a panel file a touch goes to, counted from 0 over the button records. Definitions only.
+-- Which button of a panel file a touch goes to, counted from 0 over the button records. Definitions only.
 use Rattle.std.specs.Prelude.{ℕ, suc, Bool, true, false, List, [], ◌∷◌, ◌++◌, map, length, drop, Option, Some, None, Result, Ok, Err, if◌then◌else◌, ◌==◌}
 use Rattle.geometry.specs.declared.Point.{Point}
 use Rattle.panel_file.specs.declared.Broken.{Broken}
@@ -14,7 +14,12 @@ unfoldable pub shape_of : Button → ShapeOutcome
 shape_of b =
     new_of
     (record { min = b.min; max = b.max })
-    (record { top_left = b.top_left; top_right = b.top_right; bottom_left = b.bottom_left; bottom_right = b.bottom_right })
+    (record {
+      top_left = b.top_left;
+      top_right = b.top_right;
+      bottom_left = b.bottom_left;
+      bottom_right = b.bottom_right;
+    })
 
 -- the shapes of a file's buttons, made or refused, in file order
 unfoldable pub shapes_of : List Record → List ShapeOutcome
@@ -30,33 +35,34 @@ pub data Place : Type 0 where
   button : ℕ → Place
   nowhere : Place
 
--- The first button that takes the touch keeps it: what was found stays, whatever the button of index k does.
-unfoldable pub settle : Place → ℕ → Bool → Place
-settle (button i) k b = button i
-settle nowhere k true = button k
-settle nowhere k false = nowhere
+-- Where a touch goes after the button of index k: the first button that takes it keeps it, and what was found stays.
+-- This definition alone chooses among the buttons that take a touch.
+unfoldable pub first_hit : Place → ℕ → Bool → Place
+first_hit (button i) k b = button i
+first_hit nowhere k true = button k
+first_hit nowhere k false = nowhere
 
 -- where a touch goes among the shapes from index k on, after what was found before them
-unfoldable pub seek : Point → Place → ℕ → List ShapeOutcome → Place
-seek p found k [] = found
-seek p found k (s ∷ ss) = seek p (settle found k (takes s p)) (suc k) ss
+unfoldable pub place_from : Point → Place → ℕ → List ShapeOutcome → Place
+place_from p found k [] = found
+place_from p found k (s ∷ ss) = place_from p (first_hit found k (takes s p)) (suc k) ss
 
 -- where a touch goes among a file's records, wherever among them the touch stands
 unfoldable pub place_among : List Record → Point → Place
-place_among rs p = seek p nowhere 0 (shapes_of rs)
+place_among rs p = place_from p nowhere 0 (shapes_of rs)
 
 unfoldable pub touch_of : List ℕ → Point → Answer Place
 touch_of file p = on_done (λ rs. place_among rs p) (records_of file)
 
 -- a button's index, or none, as a place
-unfoldable pub placed_of : Option ℕ → Place
-placed_of (Some i) = button i
-placed_of None = nowhere
+unfoldable pub place_of_index : Option ℕ → Place
+place_of_index (Some i) = button i
+place_of_index None = nowhere
 
 -- what `touch` answers
-unfoldable pub touched_of : Result (Option ℕ) Broken → Answer Place
-touched_of (Ok found) = done (placed_of found)
-touched_of (Err b) = broken b.offset
+unfoldable pub touch_answer : Result (Option ℕ) Broken → Answer Place
+touch_answer (Ok found) = done (place_of_index found)
+touch_answer (Err b) = broken b.offset
 
 -- ---- all touches of a file at once
 
@@ -71,23 +77,24 @@ code_of nowhere = nowhere_code
 unfoldable pub place_of : ℕ → Place
 place_of n = if n == nowhere_code then nowhere else button n
 
--- what a call answers and what it leaves in the results
-pub data Left : Type 0 where
-  left : Answer ℕ → List ℕ → Left
+-- what `touch_all` answers and what it leaves in the results
+pub data ResultsLeft : Type 0 where
+  results_left : Answer ℕ → List ℕ → ResultsLeft
 
 -- the answers of `touch` for each touch of the file, in file order
 unfoldable pub places_of : List Record → List ℕ
 places_of rs = map (λ p. code_of (place_among rs p)) (touches_of rs)
 
 -- The number of touches, and the results with their places in front. A refusal leaves the results as they were.
-unfoldable pub left_of : List ℕ → Answer (List Record) → Left
-left_of results (done rs) = left (done (length (touches_of rs))) (places_of rs ++ drop (length (touches_of rs)) results)
-left_of results (refused n o) = left (refused n o) results
+unfoldable pub results_left_of : List ℕ → Answer (List Record) → ResultsLeft
+results_left_of results (done rs) =
+    results_left (done (length (touches_of rs))) (places_of rs ++ drop (length (touches_of rs)) results)
+results_left_of results (refused n o) = results_left (refused n o) results
 
-unfoldable pub touch_all_of : List ℕ → List ℕ → Left
-touch_all_of file results = left_of results (records_of file)
+unfoldable pub touch_all_of : List ℕ → List ℕ → ResultsLeft
+touch_all_of file results = results_left_of results (records_of file)
 
 -- what `touch_all` answers
-unfoldable pub count_of : Result ℕ Broken → Answer ℕ
-count_of (Ok n) = done n
-count_of (Err b) = broken b.offset
+unfoldable pub count_answer : Result ℕ Broken → Answer ℕ
+count_answer (Ok n) = done n
+count_answer (Err b) = broken b.offset

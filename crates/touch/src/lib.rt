@@ -1,4 +1,4 @@
-//! Which button of a panel file a touch goes to: document 01's module 7, for one point and for all
+//! Which button of a panel file a touch goes to (docs/SPECIFICATION.md, "Touch"): for one point, and for all
 //! touches of the file at once.
 
 #![tactic(auto)]
@@ -9,18 +9,18 @@ ghost use Rattle.containment.specs.Contains.{contains_of};
 ghost use Rattle.containment.specs.QuickReject.{is_surely_outside};
 ghost use Rattle.panel_file.specs.Panel.{touches_of};
 ghost use Rattle.panel_file.specs.File.{records};
-ghost use Rattle.touch.specs.Touch.{code_of, place_of, settle, shape_of, shapes_of, takes, place_among, placed_of, touched_of, touch_of, left, count_of, places_of, touch_all_of};
-ghost use Rattle.touch.specs.Search.{points_in, marked, passes, next_index, looked_at, floats_of, next_count, kept_in};
+ghost use Rattle.touch.specs.Touch.{code_of, place_of, first_hit, shape_of, shapes_of, takes, place_among, place_of_index, touch_answer, touch_of, results_left, count_answer, places_of, touch_all_of};
+ghost use Rattle.touch.specs.Search.{points_in, places_after_shape, places_after_shapes, index_after_record, places_after_record, floats_of, count_after_record, floats_after_record};
 
 use containment::{QuickReject, contains};
 use geometry::Point;
 use panel_file::{Broken, Button, PanelFile, Record};
 use shape::{Bounds, CornerRadii, RoundSuperellipse, ShapeError};
 
-/// The most touches that a file of 65,536 bytes holds. An array of the largest size and no Vec: the library has no heap.
+/// The most touches that a file of 65,536 bytes holds. Arrays of the largest size and no Vec: the library has no heap.
 pub const MOST_TOUCHES: usize = 5461;
 
-/// Stays a number: the exported call lends numbers for the results, and this one says that a touch goes nowhere.
+/// What stands in the results for a touch that goes nowhere: the exported call lends numbers for them.
 pub const NOWHERE: u32 = 0xffff_ffff;
 
 /// A button's shape, or why it has none.
@@ -50,7 +50,8 @@ pub fn shape_of(button: Button) -> Result<RoundSuperellipse, ShapeError>
 // Which corner's arcs to try for p: those of the side of `center` where p lies. Another corner would cost time, never
 // a wrong answer.
 fn nearest(same: bool, center: Point, p: Point) -> usize
-    ensures { (result < 4) × (same ≡ true → result ≡ 0) }
+    ensures corner { result < 4 }
+    ensures first { same ≡ true → result ≡ 0 }
 {
     if same {
         return 0;
@@ -58,12 +59,12 @@ fn nearest(same: bool, center: Point, p: Point) -> usize
     2 * usize::from(p.x < center.x) + usize::from(p.y >= center.y)
 }
 
-// Where a touch goes, with one shape more looked at: the first that contains it keeps it. Nearly every touch is told by
-// the arcs of one corner to lie outside.
-#[tactic(auto, unfolding(crate::specs::Touch::code_of, crate::specs::Touch::place_of, crate::specs::Touch::settle))]
-fn settled(found: u32, index: u32, shape: RoundSuperellipse, arcs: QuickReject, p: Point) -> u32
+// Where a touch goes after one shape more: the first button that contains it keeps it. Of nearly every touch that lies
+// outside, the arcs of one corner show it. This and the definition of its name alone choose the button.
+#[tactic(auto, unfolding(crate::specs::Touch::code_of, crate::specs::Touch::place_of, crate::specs::Touch::first_hit))]
+fn first_hit(found: u32, index: u32, shape: RoundSuperellipse, arcs: QuickReject, p: Point) -> u32
     requires { is_surely_outside arcs shape.all_corners_same p ≡ true → contains_of shape p ≡ false }
-    ensures { result ≡ code_of (settle (place_of found) index (contains_of shape p)) }
+    ensures { result ≡ code_of (first_hit (place_of found) index (contains_of shape p)) }
 {
     if found != NOWHERE {
         return found;
@@ -77,11 +78,12 @@ fn settled(found: u32, index: u32, shape: RoundSuperellipse, arcs: QuickReject, 
     NOWHERE
 }
 
-// A shape is looked at for every touch. Points and results side by side, here and below, and no struct of both: what slices
+// One shape against every touch. Points and results side by side, here and below, and no struct of both: what slices
 // that were lent to a struct's fields hold afterwards is not known to the check.
-fn mark(shape: RoundSuperellipse, index: u32, points: &[f32], results: &mut [u32])
+fn try_shape(shape: RoundSuperellipse, index: u32, points: &[f32], results: &mut [u32])
     requires { length points.now ≡ 2 * length results.old }
-    ensures { results.new ≡ marked (contains_of shape) index (points_in points.now) results.old }
+    ensures { results.new
+        ≡ places_after_shape (contains_of shape) index (points_in points.now) results.old }
 {
     let arcs = containment::quick_rejects(shape);
     let same = shape.all_corners_same;
@@ -92,55 +94,60 @@ fn mark(shape: RoundSuperellipse, index: u32, points: &[f32], results: &mut [u32
             y: points[2 * i + 1],
         };
         let near = arcs[nearest(same, first.offset, p)];
-        *found = settled(*found, index, shape, near, p);
+        *found = first_hit(*found, index, shape, near, p);
     }
 }
 
-// What making a shape answered is looked at for every touch: a refused shape takes none, but counts.
+// One button against every touch, by what making its shape answered: a refused shape takes none, but counts.
 // The answer is the next index.
-fn consider(
+fn try_button(
     made: Result<RoundSuperellipse, ShapeError>,
     index: u32,
     points: &[f32],
     results: &mut [u32],
 ) -> u32
-    requires { (index < 65536) × (length points.now ≡ 2 * length results.old) }
+    requires index { index < 65536 }
+    requires points { length points.now ≡ 2 * length results.old }
     ensures value { result ≡ index + 1 }
-    ensures results_after { results.new ≡ marked (takes (shape_outcome_of made)) index (points_in points.now) results.old }
+    ensures results_after { results.new
+        ≡ places_after_shape (takes (shape_outcome_of made)) index (points_in points.now) results.old }
 {
     if let Ok(shape) = made {
-        mark(shape, index, points, results);
+        try_shape(shape, index, points, results);
     }
     index + 1
 }
 
-// A record is looked at for every touch; the answer is the next button's index.
-#[tactic(auto, unfolding(crate::specs::Search::next_index, crate::specs::Search::looked_at))]
-fn look(record: Record, index: u32, points: &[f32], results: &mut [u32]) -> u32
-    requires { (index < 65536) × (length points.now ≡ 2 * length results.old) }
-    ensures value { result ≡ next_index «record» index }
-    ensures results_after { results.new ≡ looked_at «record» index (points_in points.now) results.old }
+// One record against every touch; the answer is the next button's index.
+#[tactic(auto, unfolding(crate::specs::Search::index_after_record, crate::specs::Search::places_after_record))]
+fn try_record(record: Record, index: u32, points: &[f32], results: &mut [u32]) -> u32
+    requires index { index < 65536 }
+    requires points { length points.now ≡ 2 * length results.old }
+    ensures value { result ≡ index_after_record «record» index }
+    ensures results_after { results.new
+        ≡ places_after_record «record» index (points_in points.now) results.old }
 {
     match record {
-        Record::Button(button) => consider(shape_of(button), index, points, results),
+        Record::Button(button) => try_button(shape_of(button), index, points, results),
         Record::Touch(_) => index,
     }
 }
 
-// Every shape of a good file is looked at for every touch: each shape is made once.
+// Every button of a good file against every touch: each shape is made once.
 fn search(file: &PanelFile, points: &[f32], results: &mut [u32])
     requires { length points.now ≡ 2 * length results.old }
-    ensures { results.new ≡ passes (points_in points.now) 0 (shapes_of (records file.now)) results.old }
+    ensures { results.new
+        ≡ places_after_shapes (points_in points.now) 0 (shapes_of (records file.now)) results.old }
 {
     let mut index = 0;
     for record in file.records() {
-        index = look(record, index, points, results);
+        index = try_record(record, index, points, results);
     }
 }
 
 // Where a touch at p goes in a good file.
 fn place(file: &PanelFile, p: Point) -> Option<usize>
-    ensures { placed_of result ≡ place_among (records file.now) p }
+    ensures { place_of_index result ≡ place_among (records file.now) p }
 {
     let points = [p.x, p.y];
     let mut results = [NOWHERE];
@@ -152,21 +159,21 @@ fn place(file: &PanelFile, p: Point) -> Option<usize>
     Some(found as usize)
 }
 
-/// Where a touch at p goes, looking through the whole file.
-#[tactic(auto, unfolding(crate::specs::Touch::touch_of, crate::specs::Touch::touched_of, panel_file::specs::File::opened_of, panel_file::specs::Panel::on_done))]
+/// The index of the button that a touch at p goes to, among those of the whole file, if it goes to one.
+#[tactic(auto, unfolding(crate::specs::Touch::touch_of, crate::specs::Touch::touch_answer, panel_file::specs::File::new_answer, panel_file::specs::Panel::on_done))]
 pub fn touch(file: &[u8], p: Point) -> Result<Option<usize>, Broken>
-    ensures { touched_of result ≡ touch_of file.now p }
+    ensures { touch_answer result ≡ touch_of file.now p }
 {
     let file = PanelFile::new(file)?;
     Ok(place(&file, p))
 }
 
 // A record's point behind the n points that are held, if it is a touch; the answer counts them.
-#[tactic(auto, unfolding(crate::specs::Search::next_count, crate::specs::Search::kept_in))]
+#[tactic(auto, unfolding(crate::specs::Search::count_after_record, crate::specs::Search::floats_after_record))]
 fn keep(record: Record, points: &mut [f32], n: usize) -> usize
     requires { 2 * n + 1 < length points.old }
-    ensures value { result ≡ next_count «record» n }
-    ensures points_after { points.new ≡ kept_in «record» n points.old }
+    ensures value { result ≡ count_after_record «record» n }
+    ensures points_after { points.new ≡ floats_after_record «record» n points.old }
 {
     match record {
         Record::Button(_) => n,
@@ -181,7 +188,8 @@ fn keep(record: Record, points: &mut [f32], n: usize) -> usize
 // The points of a good file's touches, in file order.
 fn gather(file: &PanelFile, points: &mut [f32])
     requires { 10922 ≤ length points.old }
-    ensures { take (2 * length (touches_of (records file.now))) points.new ≡ floats_of (touches_of (records file.now)) }
+    ensures { let touches = touches_of (records file.now) in
+        take (2 * length touches) points.new ≡ floats_of touches }
 {
     let mut n = 0;
     for record in file.records() {
@@ -202,9 +210,10 @@ pub fn places(file: &PanelFile, results: &mut [u32; 5461]) -> usize
     n
 }
 
-/// `touch` for every touch of the file, in file order, each shape made once. Results past the file's touches stay as they were.
+/// `touch` for every touch of the file, in file order, each shape made once. Results past the file's touches stay as
+/// they were, and on a refusal all of them.
 pub fn touch_all(file: &[u8], results: &mut [u32; 5461]) -> Result<usize, Broken>
-    ensures { left (count_of result) results.new ≡ touch_all_of file.now results.old }
+    ensures { results_left (count_answer result) results.new ≡ touch_all_of file.now results.old }
 {
     let file = PanelFile::new(file)?;
     Ok(places(&file, results))

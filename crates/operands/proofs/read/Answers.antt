@@ -13,12 +13,12 @@ unfolding with_next
 returns-in_err-push_next c =
     let w = c.in-Some.ensures in
     rw c.from_residual.ensures
-    (sym (c.loop-word.invariant ∙ one_more with_next _ _ _ _ _ w.parts.0 w.parts.1 w.some.0 c.in_err-push_next.ensures ∙ stuck with_next None (λ w. refl) _ _))
+    (sym (c.loop-word.invariant ∙ one_more with_next _ _ _ _ _ w.word w.rest w.some c.in_err-push_next.ensures ∙ stuck with_next None (λ w. refl) _ _))
 
 pub loop-word-preserved : goal.loop-word-preserved
 loop-word-preserved c =
     let w = c.in-Some.ensures in
-    c.loop-word.invariant ∙ one_more with_next _ _ _ _ _ w.parts.0 w.parts.1 w.some.0 c.in_ok-push_next.ensures
+    c.loop-word.invariant ∙ one_more with_next _ _ _ _ _ w.word w.rest w.some c.in_ok-push_next.ensures
 
 pub returns : goal.returns
-returns c = sym (c.loop-word.invariant ∙ none_left with_next _ _ _ c.in_default.ensures.parts)
+returns c = sym (c.loop-word.invariant ∙ none_left with_next _ _ _ c.in_default.ensures.none)

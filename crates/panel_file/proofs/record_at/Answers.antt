@@ -1,6 +1,6 @@
 -- `record_at` meets its contract.
 use Rattle.std.proofs.Common.{arith, ap, Ok}
-use Rattle.panel_file.specs.Panel.{payload_of, read_of, record_at, entry_of, content_at}
+use Rattle.panel_file.specs.Panel.{payload_of, record_answer, record_at, entry_of, content_at}
 use Rattle.panel_file.proofs.Following.{Inside, head_within}
 use Rattle.panel_file.proofs.record_at.Goals as goal
 use Rattle.panel_file.proofs.record_at.Goals.{In-Some}
@@ -23,9 +23,9 @@ unfolding payload_of
 point_at-requires c = omega (arith, within (goal.at.point_at-requires c).In-Some, ap payload_of c.in-Touch.is)
 
 pub returns-in-Button : goal.returns-in-Button
-unfolding read_of record_at entry_of content_at
+unfolding record_answer record_at entry_of content_at
 returns-in-Button c = rw (← c.head_at.ensures, c.in_ok-kind.was, c.in-Some.is, ← c.payload.ensures, c.in-Button.is, ← c.button_at.ensures)
 
 pub returns-in-Touch : goal.returns-in-Touch
-unfolding read_of record_at entry_of content_at
+unfolding record_answer record_at entry_of content_at
 returns-in-Touch c = rw (← c.head_at.ensures, c.in_ok-kind.was, c.in-Some.is, ← c.payload.ensures, c.in-Touch.is, ← c.point_at.ensures)

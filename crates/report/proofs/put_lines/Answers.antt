@@ -7,7 +7,7 @@ use Rattle.report_lines.specs.Line.{line_of}
 use Rattle.report_lines.specs.Text.{text_of}
 use Rattle.report_lines.specs.Records.{none_before}
 use Rattle.report.specs.Report.{lines_of}
-use Rattle.report.proofs.Placing.{all_told}
+use Rattle.report.proofs.Placing.{report_of-lines_by}
 use Rattle.report_lines.proofs.Writing.{over_all}
 use Rattle.report.proofs.put_lines.Goals as goal
 
@@ -17,9 +17,9 @@ put_line-requires c = omega (arith, c.put_records-n.ensures.upper_bound)
 pub returns : goal.returns
 returns c =
     let all = records c.args.file.now in
-    let told = c.put_records-n.ensures in
-    let o = over_all _ _ _ _ _ _ told.over.rest c.put_line.ensures.over (text_of (lines_of all 0 all))
-    (all_told all c.args.places.now.touched none_before refl c.requires (records_few c.args.file.now)
-    ∙ ap (λ (t : List ℕ). t ++ line_of End) (sym told.over.front))
-    c.put_line.ensures.upper_bound.1 in
-    record { prefix_len = c.put_line.ensures.upper_bound.1; over = o }
+    let put = c.put_records-n.ensures in
+    let o = over_all _ _ _ _ _ _ put.over.rest c.put_line.ensures.over (text_of (lines_of all 0 all))
+    (report_of-lines_by all c.args.places.now.place_codes none_before refl c.requires (records_few c.args.file.now)
+    ∙ ap (λ (t : List ℕ). t ++ line_of End) (sym put.over.front))
+    c.put_line.ensures.prefix_len in
+    record { prefix_len = c.put_line.ensures.prefix_len; over = o }

@@ -1,11 +1,11 @@
--- `report_line::number` meets its contract. Assumes nothing.
+-- `report_lines::number` meets its contract. Assumes nothing.
 use native.Mathlib.Omega.{arith}
-use Rattle.report_lines.specs.Line.{numbered}
+use Rattle.report_lines.specs.Line.{number_then}
 use Rattle.report_lines.proofs.Adding.{put-added, added-two, decimal_most}
 use Rattle.report_lines.proofs.number.Goals as goal
 
 pub returns : goal.returns
-unfolding numbered
+unfolding number_then
 returns c =
     let a = c.args in
     let digits = decimal_most a.n in

@@ -1,7 +1,7 @@
--- `report_line::put_records` meets its contract.
+-- `report_lines::put_records` meets its contract.
 use Rattle.std.proofs.Common.{List, ℕ, ◌++◌, length, take, append_assoc, sym, ap, ◌∙◌, arith}
 use Rattle.panel_file.specs.declared.Record.{Record}
-use Rattle.panel_file.specs.Panel.{kind_of_record, counted_of}
+use Rattle.panel_file.specs.Panel.{kind_of_record, counts_with}
 use Rattle.panel_file.specs.File.{records_left}
 use Rattle.panel_file.proofs.Counting.{one_more}
 use Rattle.report_lines.specs.Text.{text_of}
@@ -33,7 +33,7 @@ loop-record-preserved g c =
           ∙ ap (λ (rs : List Record). take loop.n loop.out ++ text_of (lines_by line loop.counts rs)) step
           ∙ ap (λ (t : List ℕ). take loop.n loop.out ++ t) (next_lines line loop.counts r rest)
           ∙ sym (append_assoc (take loop.n loop.out) _ _)
-          ∙ ap (λ (t : List ℕ). t ++ text_of (lines_by line (counted_of loop.counts (kind_of_record r)) rest)) (sym put.front),
+          ∙ ap (λ (t : List ℕ). t ++ text_of (lines_by line (counts_with loop.counts (kind_of_record r)) rest)) (sym put.front),
       over_rest c.args.out.now loop.out loop.n _ _ _ loop.invariant.3 put,
       over_counts loop.out loop.n _ _ _ loop.invariant.4 put,
     )

@@ -1,4 +1,4 @@
--- `report_line::put_records` meets its contract.
+-- `report_lines::put_records` meets its contract.
 use Rattle.std.proofs.Common.{◌≡◌, ◌+◌, ◌*◌, ◌≤◌, ◌++◌, length, take, drop}
 use Rattle.io.specs.Counts.{IsPrefixLen}
 use Rattle.panel_file.specs.File.{records, records_left}

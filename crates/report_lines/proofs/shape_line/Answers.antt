@@ -1,4 +1,4 @@
--- `report_line::shape_line` meets its contract. Assumes nothing.
+-- `report_lines::shape_line` meets its contract. Assumes nothing.
 use Rattle.std.proofs.Common.{arith, [], ◌∷◌}
 use Rattle.report_lines.specs.Line.{line_of, shape_text}
 use Rattle.report_lines.proofs.Adding.{added-two, numbered-past, named-past}

@@ -1,4 +1,4 @@
--- `report_line::two_numbers` meets its contract. Assumes nothing.
+-- `report_lines::two_numbers` meets its contract. Assumes nothing.
 use Rattle.std.proofs.Common.{arith}
 use Rattle.report_lines.proofs.Adding.{named-past}
 use Rattle.report_lines.proofs.two_numbers.Goals as goal

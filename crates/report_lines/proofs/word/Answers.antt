@@ -1,4 +1,4 @@
--- `report_line::word` meets its contract. Assumes nothing.
+-- `report_lines::word` meets its contract. Assumes nothing.
 use native.Mathlib.Omega.{arith}
 use Rattle.report_lines.proofs.Adding.{put-added}
 use Rattle.report_lines.proofs.word.Goals as goal

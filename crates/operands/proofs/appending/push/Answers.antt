@@ -8,12 +8,12 @@ returns-in_err-held g c =
     let w = c.in-Some.ensures in
     let step = g.T.Element.with_word in
     rw c.from_residual.ensures
-    (sym (c.loop-word.invariant ∙ one_more step _ _ _ _ _ w.parts.0 w.parts.1 w.some.0 (sym c.in_err-held.ensures) ∙ stuck step _ (λ w. g.met.T.Element.stays _ w) _ _))
+    (sym (c.loop-word.invariant ∙ one_more step _ _ _ _ _ w.word w.rest w.some (sym c.in_err-held.ensures) ∙ stuck step _ (λ w. g.met.T.Element.stays _ w) _ _))
 
 pub loop-word-preserved : goal.loop-word-preserved
 loop-word-preserved g c =
     let w = c.in-Some.ensures in
-    c.loop-word.invariant ∙ one_more g.T.Element.with_word _ _ _ _ _ w.parts.0 w.parts.1 w.some.0 (sym c.in_ok-held.ensures)
+    c.loop-word.invariant ∙ one_more g.T.Element.with_word _ _ _ _ _ w.word w.rest w.some (sym c.in_ok-held.ensures)
 
 pub returns : goal.returns
-returns g c = sym (c.loop-word.invariant ∙ none_left g.T.Element.with_word _ _ _ c.in_default.ensures.parts)
+returns g c = sym (c.loop-word.invariant ∙ none_left g.T.Element.with_word _ _ _ c.in_default.ensures.none)
