@@ -41,19 +41,19 @@ book_of entries answers_word verb_room float_room cs =
 module _
     {C : Type 0} (step : State → C → Outcome) (entries : Bool → Point → C → List Entry) (answers_word : C → Bool)
   where
-  -- a call c on a builder s with the book k: refused exactly where the book has no room, with 5, and then nothing
-  -- changes
-  pub record EachCall (verb_room float_room : ℕ) (s : State) (k : Book) (c : C) : Type 0 where
-    pub number : (step s c).number ≡ (if accepts verb_room float_room k (entries_added entries k c) then 0 else 5)
-    pub unchanged : accepts verb_room float_room k (entries_added entries k c) ≡ false → (step s c).state ≡ s
+    -- a call c on a builder s with the book k: refused exactly where the book has no room, with 5, and then nothing
+    -- changes
+    pub record EachCall (verb_room float_room : ℕ) (s : State) (k : Book) (c : C) : Type 0 where
+      pub number : (step s c).number ≡ (if accepts verb_room float_room k (entries_added entries k c) then 0 else 5)
+      pub unchanged : accepts verb_room float_room k (entries_added entries k c) ≡ false → (step s c).state ≡ s
 
-  pub record EveryList (b : Builder) (vs : List ℕ) (fs : List Float) (cs : List C) : Type 0 where
-    -- the answers are those of the book, call by call
-    pub replies : answers (builder_machine step) (state b vs fs) cs
-        ≡ answers (book_machine entries answers_word (length vs) (length fs)) empty_book cs
-    pub each : (pre : List C) (c : C) (post : List C) → cs ≡ pre ++ c ∷ post
-        → let k = book_of entries answers_word (length vs) (length fs) pre in
-        EachCall (length vs) (length fs) (state_after step b vs fs pre) k c
-    -- what is left reads as the book
-    pub left : let k = book_of entries answers_word (length vs) (length fs) cs in
-        ReadsAs (state_after step b vs fs cs) (elements_of k.entries)
+    pub record EveryList (b : Builder) (vs : List ℕ) (fs : List Float) (cs : List C) : Type 0 where
+      -- the answers are those of the book, call by call
+      pub replies : answers (builder_machine step) (state b vs fs) cs
+          ≡ answers (book_machine entries answers_word (length vs) (length fs)) empty_book cs
+      pub each : (pre : List C) (c : C) (post : List C) → cs ≡ pre ++ c ∷ post
+          → let k = book_of entries answers_word (length vs) (length fs) pre in
+          EachCall (length vs) (length fs) (state_after step b vs fs pre) k c
+      -- what is left reads as the book
+      pub left : let k = book_of entries answers_word (length vs) (length fs) cs in
+          ReadsAs (state_after step b vs fs cs) (elements_of k.entries)

@@ -60,13 +60,13 @@ EveryListIsFaithful =
 abbrev pub EveryFreshListIsFaithful : Type 0
 EveryFreshListIsFaithful = (vs : List ℕ) (fs : List Float) (cs : List BuildingCall) → Faithful fresh_builder vs fs cs
 
--- whatever the conic, a fresh builder accepts it in buffers of at least 65 bytes and 258 floats
+-- whatever the conic, the empty book accepts it for buffers of at least 65 bytes and 258 floats
 abbrev pub EveryConicFindsRoom : Type 0
 EveryConicFindsRoom =
     (verb_room float_room : ℕ) (ctrl to : Point) (w : Float) → 65 ≤ verb_room → 258 ≤ float_room
     → accepts verb_room float_room empty_book (entries_added entries_of empty_book (ConicTo ctrl to w)) ≡ true
 
--- and whatever the shape its outline, in buffers of at least 1,035 bytes and 4,148 floats
+-- and whatever the shape its outline, for buffers of at least 1,035 bytes and 4,148 floats
 abbrev pub EveryOutlineFindsRoom : Type 0
 EveryOutlineFindsRoom =
     (verb_room float_room : ℕ) (shape : RoundSuperellipse) → 1035 ≤ verb_room → 4148 ≤ float_room

@@ -122,13 +122,7 @@ mod tests {
         let mut verbs = [9u8; 3];
         let mut points = [0.0f32; 4];
         let mut replies = [Reply { number: 9, word: 9 }; 3];
-        let b = perform(
-            &calls,
-            stream::new(),
-            &mut verbs,
-            &mut points,
-            &mut replies,
-        );
+        let b = perform(&calls, stream::new(), &mut verbs, &mut points, &mut replies);
         assert_eq!(rt; (b.verbs, b.points), (3, 2));
         assert_eq!(rt; verbs, [0, 1, 4]);
         let numbers = [replies[0].number, replies[1].number, replies[2].number];

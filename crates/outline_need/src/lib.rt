@@ -10,8 +10,8 @@ ghost use Rattle.outline_corners.specs.Calls.{conic_call, calls_forwards, calls_
 ghost use Rattle.outline_need.specs.Entries.{Passes, last_point, entries_along, outline_entries};
 
 use calls::Call;
-use outline_corners::{ConicArc, Corner, OctantArcs, Outline};
 use geometry::Point;
+use outline_corners::{ConicArc, Corner, OctantArcs, Outline};
 use shape::RoundSuperellipse;
 use stream::{Builder, Need};
 

@@ -14,7 +14,6 @@ use Rattle.calls.specs.declared.Call.{Call}
 use Rattle.calls.specs.declared.Call.TheVariants as call
 use Rattle.octant_curves.specs.Circle.{arc_points_of, circular_arc_points_of}
 use Rattle.octant_curves.specs.Conics as port
-use Rattle.octant_curves.specs.declared.ConicFactors.{ConicFactors}
 use Rattle.octant_curves.specs.declared.SuperellipseConics as drawn
 use Rattle.octant_curves.specs.declared.Placement as placed
 use Rattle.octant_curves.specs.Placement.{flipped_of, apply_of}
@@ -45,10 +44,8 @@ after_all_append b (c ∷ cs) ds = after_all_append (after b c) cs ds
 
 -- ---- an octant's curves
 
-abbrev factors_as : Float × Float × Float → ConicFactors
-factors_as f = record { weight1 = f.0; weight2 = f.1; yh_proportion = f.2 }
-
-factors_are : (n x : Float) → port.superellipse_conic_factors_of n x ≡ factors_as (superellipse_conic_factors n x)
+factors_are : (n x : Float) → let f = superellipse_conic_factors n x in
+    port.superellipse_conic_factors_of n x ≡ record { weight1 = f.0; weight2 = f.1; yh_proportion = f.2 }
 unfolding superellipse_conic_factors table_entry port.superellipse_conic_factors_of port.capped_degree port.conic_at
 factors_are n x = refl
 

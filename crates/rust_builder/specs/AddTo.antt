@@ -90,10 +90,8 @@ superellipse_conics param yj_over_a =
     let factors = superellipse_conic_factors param.se_n (j.x ⊘ param.se_a) in
     let yh_proportion = factors.2 in
     let yh_over_a = (one ⊗ yh_proportion ⊕ yj_over_a) ⊘ (yh_proportion ⊕ one) in
-    let h = vec2
-        (pow_of (one ⊖ pow_of yh_over_a param.se_n) (one ⊘ param.se_n) ⊗ param.se_a)
-        (yh_over_a ⊗ param.se_a)
-    in
+    let h_x = pow_of (one ⊖ pow_of yh_over_a param.se_n) (one ⊘ param.se_n) ⊗ param.se_a in
+    let h = vec2 h_x (yh_over_a ⊗ param.se_a) in
     let k_a = zero in
     let k_j = neg (pow_of (j.x ⊘ j.y) (param.se_n ⊖ one)) in
     let k_h = neg (pow_of (h.x ⊘ h.y) (param.se_n ⊖ one)) in
@@ -113,10 +111,9 @@ unfoldable pub circular_arc_points : Octant → Point × Point × Point × Point
 circular_arc_points param =
     let start_vector = param.circle_start ⊟ param.circle_center in
     let turn = sin_cos_of (neg param.circle_max_angle) in
-    let end_vector = vec2
-        (start_vector.x ⊗ turn.cos ⊖ start_vector.y ⊗ turn.sin)
-        (start_vector.x ⊗ turn.sin ⊕ start_vector.y ⊗ turn.cos)
-    in
+    let end_x = start_vector.x ⊗ turn.cos ⊖ start_vector.y ⊗ turn.sin in
+    let end_y = start_vector.x ⊗ turn.sin ⊕ start_vector.y ⊗ turn.cos in
+    let end_vector = vec2 end_x end_y in
     let circle_end = param.circle_center ⊞ end_vector in
     let start_tangent = vec2_normalize (vec2 start_vector.y (neg start_vector.x)) in
     let end_tangent = vec2_normalize (vec2 (neg end_vector.y) end_vector.x) in
@@ -160,11 +157,9 @@ add_quadrant b param reverse scale_sign =
     if lt param.top.se_n two || lt param.right.se_n two
     then (let corner = param.top.offset ⊞ vec2 param.top.se_a param.top.se_a in
     let b1 = line_to b (param.offset ⊞ scale ⊠ corner) in
-    let next =
-        if reverse
-        then param.top.offset ⊞ vec2 zero param.top.se_a
-        else param.right.offset ⊞ vec2 param.right.se_a zero
-    in
+    let on_top = param.top.offset ⊞ vec2 zero param.top.se_a in
+    let on_right = param.right.offset ⊞ vec2 param.right.se_a zero in
+    let next = if reverse then on_top else on_right in
     line_to b1 (param.offset ⊞ scale ⊠ next))
     else (if reverse
     then (let b1 = add_octant b param.right param.offset scale false true in
