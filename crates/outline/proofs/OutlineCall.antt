@@ -11,7 +11,7 @@ use Rattle.stream.specs.Stream.{State, origin, need_of, push_all, Fits, start_af
 use Rattle.stream.proofs.Tests.{room-is}
 use Rattle.conic_writer.specs.Entries.{elements_of}
 use Rattle.calls.specs.declared.BuildError.{BuildError}
-use Rattle.calls.specs.Calls.{entries_of, outcome, outcome_of, admit_of}
+use Rattle.calls.specs.Calls.{entries_of, outcome, without_word, outcome_of, admit_of}
 use Rattle.calls.proofs.Admission.{Admitted, admitted_for, refused-is, done-is, passed_on}
 use Rattle.calls.proofs.Largest.{Covered}
 use Rattle.outline_need.proofs.Turns.{outline-sizes}
@@ -20,7 +20,7 @@ use Rattle.outline_corners.specs.declared.Outline.{Outline}
 use Rattle.outline_corners.specs.Calls.{Drawing, drawing_of, calls_in, outline_of, outline_calls}
 use Rattle.outline_need.specs.Entries.{entries_along, outline_entries, elements_along, push_calls, RoomAlong}
 use Rattle.outline.specs.declared.BuildingCall.TheVariants.{AddTo}
-use Rattle.outline.specs.Step.{without_word, step}
+use Rattle.outline.specs.Step.{step}
 
 -- what is drawn begins with a move, so it is the same from every pen
 elements_anywhere : (s : State) (d : Drawing) → elements_along s (calls_in d) ≡ elements_of (entries_along origin origin (calls_in d))

@@ -6,7 +6,7 @@ use Rattle.stream.specs.Stream.{State}
 use Rattle.conic_writer.specs.Entries.{Entry}
 use Rattle.calls.specs.declared.Call.TheVariants as call
 use Rattle.calls.specs.Calls as calls
-use Rattle.calls.specs.Calls.{Outcome, outcome, attempt}
+use Rattle.calls.specs.Calls.{Outcome, without_word, attempt}
 use Rattle.outline_need.specs.Entries.{outline_entries}
 use Rattle.outline.specs.declared.BuildingCall.{BuildingCall}
 use Rattle.outline.specs.declared.BuildingCall.TheVariants.{MoveTo, LineTo, QuadTo, ConicTo, CubicTo, Close, AddTo}
@@ -30,10 +30,6 @@ answers_word (ConicTo a b w) = true
 answers_word (CubicTo a b c) = true
 answers_word Close = true
 answers_word (AddTo shape) = false
-
--- an outcome with no joint word
-abbrev pub without_word : Outcome → Outcome
-without_word o = outcome o.number 0 o.state
 
 -- what a call leaves and answers; an outline: all of its entries, or nothing
 unfoldable pub step : State → BuildingCall → Outcome

@@ -16,7 +16,7 @@ use Rattle.octant_curves.specs.Circle.{arc_points_of, circular_arc_points_of}
 use Rattle.octant_curves.specs.Conics as port
 use Rattle.octant_curves.specs.declared.SuperellipseConics as drawn
 use Rattle.octant_curves.specs.declared.Placement as placed
-use Rattle.octant_curves.specs.Placement.{flipped_of, apply_of}
+use Rattle.octant_curves.specs.Placement.{flipped_point, apply_of}
 use Rattle.outline_corners.specs.declared.Curves.{Curves}
 use Rattle.outline_corners.specs.Corners.{curves_of, placed_conic, placed_cubic, forwards_calls, backwards_calls, octant_calls, next_of, square_calls, round_calls, corner_calls, equal_corners, unequal_corners, corners_of, start_point}
 use Rattle.outline_corners.specs.Calls.{calls_in, outline_of, outline_calls}
@@ -57,7 +57,7 @@ abbrev conics_as : SuperellipseConics → drawn.SuperellipseConics
 conics_as s = record { c1 = s.c1; h = s.h; weight1 = s.weight1; c2 = s.c2; j = s.j; weight2 = s.weight2; a = s.a }
 
 conics_are : (o : Octant) (y : Float) → port.superellipse_conics_of o y ≡ conics_as (superellipse_conics o y)
-unfolding superellipse_conics port.superellipse_conics_of port.meeting_of port.joined_of
+unfolding superellipse_conics port.superellipse_conics_of port.meeting_height_of port.conics_by_slopes
 conics_are o y = simp (factors_are, intersections_are)
 
 abbrev points_as : Point × Point × Point × Point → List Point
@@ -80,7 +80,7 @@ abbrev place_as : Placement → placed.Placement
 place_as p = record { offset = p.offset; scale = p.scale; octant_offset = p.octant_offset; flip = p.flip }
 
 applies : (place : Placement) (p : Point) → apply_of (place_as place) p ≡ apply place p
-unfolding apply apply_of flipped_of add_of mul_of
+unfolding apply apply_of flipped_point add_of mul_of
 applies place p = refl
 
 module _ (b : PathBuilder) (place : Placement) (o : Octant) where
@@ -92,12 +92,12 @@ module _ (b : PathBuilder) (place : Placement) (o : Octant) where
 
   backwards : conic_to (conic_to (cubic_to b (apply place c.2) (apply place c.1) (apply place c.0)) (apply place se.c2) (apply place se.h) se.weight2) (apply place se.c1) (apply place se.a) se.weight1
       ≡ after_all b (backwards_calls (place_as place) (curves_as o))
-  unfolding after_all after backwards_calls placed_conic placed_cubic apply apply_of flipped_of add_of mul_of
+  unfolding after_all after backwards_calls placed_conic placed_cubic apply apply_of flipped_point add_of mul_of
   backwards = refl
 
   forwards : cubic_to (conic_to (conic_to b (apply place se.c1) (apply place se.h) se.weight1) (apply place se.c2) (apply place se.j) se.weight2) (apply place c.1) (apply place c.2) (apply place c.3)
       ≡ after_all b (forwards_calls (place_as place) (curves_as o))
-  unfolding after_all after forwards_calls placed_conic placed_cubic apply apply_of flipped_of add_of mul_of
+  unfolding after_all after forwards_calls placed_conic placed_cubic apply apply_of flipped_point add_of mul_of
   forwards = refl
 
 octants-are : (b : PathBuilder) (o : Octant) (offset scale : Point) (reverse flip : Bool) → add_octant b o offset scale reverse flip ≡ after_all b (octant_calls o offset scale reverse flip)
