@@ -97,5 +97,8 @@ pub fn shackletongue_is_consistent(sizes: &[f32], shape: &[f32]) -> u32
     let Some(shape) = shape.as_array::<SHAPE_LENGTH>() else {
         return WRONG_LENGTH;
     };
-    u32::from(consistency::is_consistent(shape::layout::bounds_at(sizes), shape::layout::shape_at(shape)))
+    u32::from(consistency::is_consistent(
+        shape::layout::bounds_at(sizes),
+        shape::layout::shape_at(shape),
+    ))
 }

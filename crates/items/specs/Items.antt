@@ -3,6 +3,8 @@
 use Rattle.std.specs.Prelude.{ℕ, Bool, ◌||◌, List, length, get_or, nat_le, nat_lt, Float, Option, Some, None, Result, Ok, Err, if◌then◌else◌, ◌==◌, codes}
 use Rattle.std.specs.Float.{nan}
 use Rattle.std.specs.Str.{bytes_eq}
+use Rattle.stream.specs.declared.Verb.TheVariants as verb
+use Rattle.stream.specs.Stream.{verb_text}
 use Rattle.geometry.specs.declared.Point.{Point}
 use Rattle.text.specs.Numbers.{number_of}
 use Rattle.text.specs.Words.{first_word, after_word}
@@ -37,25 +39,25 @@ abbrev pub floats_text : List ℕ
 floats_text = codes "floats"
 
 abbrev pub close_text : List ℕ
-close_text = codes "close"
+close_text = verb_text verb.Close
 
 abbrev pub box_text : List ℕ
 box_text = codes "box"
 
 abbrev pub move_text : List ℕ
-move_text = codes "move"
+move_text = verb_text verb.Move
 
 abbrev pub line_text : List ℕ
-line_text = codes "line"
+line_text = verb_text verb.Line
 
 abbrev pub quad_text : List ℕ
-quad_text = codes "quad"
+quad_text = verb_text verb.Quad
 
 abbrev pub conic_text : List ℕ
 conic_text = codes "conic"
 
 abbrev pub cubic_text : List ℕ
-cubic_text = codes "cubic"
+cubic_text = verb_text verb.Cubic
 
 abbrev pub outline_text : List ℕ
 outline_text = codes "outline"

@@ -3,5 +3,4 @@ pub mod Reader
 pub mod Folds
 pub mod Parts
 pub mod Holding
-pub mod Held
 mod Refusals

@@ -1,5 +1,7 @@
 -- The lines that replay_paths and replay_triangles write (docs/REPLAY.md), as lists of bytes. Definitions only.
 use Rattle.std.specs.Prelude.{ℕ, List, ◌++◌, decimal, codes}
+use Rattle.stream.specs.declared.Verb.TheVariants as verb
+use Rattle.stream.specs.Stream.{verb_text}
 use Rattle.geometry.specs.declared.Point.{Point}
 use Rattle.reader.specs.declared.Segment.{Segment}
 use Rattle.reader.specs.declared.Segment.TheVariants as segment
@@ -15,19 +17,19 @@ abbrev pub blank : List ℕ
 blank = codes " "
 
 abbrev pub move_text : List ℕ
-move_text = codes "move"
+move_text = verb_text verb.Move
 
 abbrev pub line_text : List ℕ
-line_text = codes "line"
+line_text = verb_text verb.Line
 
 abbrev pub quad_text : List ℕ
-quad_text = codes "quad"
+quad_text = verb_text verb.Quad
 
 abbrev pub cubic_text : List ℕ
-cubic_text = codes "cubic"
+cubic_text = verb_text verb.Cubic
 
 abbrev pub close_text : List ℕ
-close_text = codes "close"
+close_text = verb_text verb.Close
 
 abbrev pub end_text : List ℕ
 end_text = codes "end"
