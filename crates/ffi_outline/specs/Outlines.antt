@@ -1,6 +1,7 @@
 -- What the exported functions on outlines answer: an outline drawn, what an outline or a conic needs, and whether the
 -- outline and the touch area of a shape are consistent. Shapes and records stand in lent numbers. Definitions only.
 use Rattle.std.specs.Prelude.{◌&&◌, List, [], ◌∷◌, ℕ, length, Float, if◌then◌else◌, ◌==◌}
+use Rattle.ffi_floats.specs.Boundary.{wrong_length}
 use Rattle.geometry.specs.declared.Point.{Point}
 use Rattle.stream.specs.declared.Need.{Need}
 use Rattle.stream.specs.Stream.{State, is_empty, need_of}
@@ -12,7 +13,7 @@ use Rattle.outline.specs.declared.BuildingCall.TheVariants.{AddTo}
 use Rattle.outline.specs.Step.{step}
 use Rattle.consistency.specs.Consistency.{consistent_of}
 use Rattle.ffi_shape.specs.Layout.{shape_at, bounds_at}
-use Rattle.ffi_path.specs.Lent.{builder_at, fitting, wrong_length, PathAnswer, path_answer, lent_by}
+use Rattle.ffi_path.specs.Lent.{builder_at, fitting, PathAnswer, path_answer, lent_by}
 
 -- the outline of a shape drawn into a record: number, record and buffers as of the other six calls
 abbrev pub outline_left : List Float → List ℕ → List Float → List ℕ → List Float → PathAnswer

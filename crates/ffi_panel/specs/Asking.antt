@@ -1,18 +1,12 @@
 -- What the exported functions on panel files answer and leave in what is lent. Definitions only.
 use Rattle.std.specs.Prelude.{◌&&◌, List, [], ◌∷◌, ℕ, length, get_or, set, Float, if◌then◌else◌, ◌==◌}
+use Rattle.ffi_floats.specs.Boundary.{wrong_length, none}
 use Rattle.geometry.specs.declared.Point.{Point}
 use Rattle.stream.specs.Stream.{put, floats_in}
 use Rattle.panel_file.specs.declared.Record.{Record}
 use Rattle.panel_file.specs.declared.Record.TheVariants.{Button as ButtonRecord, Touch as TouchRecord}
 use Rattle.panel_file.specs.Panel.{Answer, done, refused, Entry, entry, end, record_at}
 use Rattle.touch.specs.Touch.{Place, button, nowhere, touch_of, ResultsLeft, results_left, touch_all_of}
-
--- this boundary's own numbers: a slice has the wrong length, and the answer is none
-abbrev pub wrong_length : ℕ
-wrong_length = 100
-
-abbrev pub none : ℕ
-none = 101
 
 -- the number that is returned, and what is in the lent place
 pub data PlaceLeft : Type 0 where

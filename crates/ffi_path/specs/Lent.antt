@@ -2,6 +2,7 @@
 -- count and a joint word, and four floats, which are the contour's start and the pen. Definitions only.
 use Rattle.std.specs.Prelude.{◌≡◌, Bool, ◌&&◌, List, [], ◌∷◌, ℕ, length, get_or, Float, Option, Some, None, if◌then◌else◌, ◌==◌}
 use Rattle.std.specs.Float.{nan}
+use Rattle.ffi_floats.specs.Boundary.{wrong_length}
 use Rattle.geometry.specs.declared.Point.{Point}
 use Rattle.stream.specs.declared.Builder.{Builder}
 use Rattle.stream.specs.Stream.{State, state}
@@ -47,10 +48,6 @@ unfoldable pub record_in : List ℕ → List Float → Option Builder
 record_in counts places = from_record counts places (λ b. Some b) None
 
 -- ---- what a call answers
-
--- this boundary's own number: a slice of the record has the wrong length
-abbrev pub wrong_length : ℕ
-wrong_length = 100
 
 -- the number that is returned, and what is in the four lent slices
 pub record PathAnswer : Type 0 where

@@ -1,12 +1,13 @@
 -- What the exported functions that read a path answer: the segment at a cursor, and the box. Record, cursor, segment
 -- and box stand in lent numbers. Definitions only.
 use Rattle.std.specs.Prelude.{◌&&◌, List, [], ◌∷◌, ℕ, length, get_or, Float, Option, Some, None, if◌then◌else◌, ◌==◌}
+use Rattle.ffi_floats.specs.Boundary.{wrong_length, none}
 use Rattle.stream.specs.Stream.{state, put, verb_of, floats_of}
 use Rattle.reader.specs.declared.Cursor.{Cursor}
 use Rattle.reader.specs.declared.Rect.{Rect}
 use Rattle.reader.specs.Reading.{Reading, ok, refused, with_record, at_verb, Item, item, end, cursor, read_at}
 use Rattle.reader.specs.Bounds.{bounds_of}
-use Rattle.ffi_path.specs.Lent.{from_record, wrong_length}
+use Rattle.ffi_path.specs.Lent.{from_record}
 
 -- ---- one segment
 
@@ -48,10 +49,6 @@ read_of counts places vs fs cs old =
     else wrong
 
 -- ---- the box
-
--- this boundary's own number: there is none
-abbrev pub none : ℕ
-none = 101
 
 pub record BoxAnswer : Type 0 where
   pub number : ℕ

@@ -1,13 +1,10 @@
 -- What the two exported functions on shapes answer. Definitions only.
 use Rattle.std.specs.Prelude.{◌&&◌, List, ℕ, length, Float, if◌then◌else◌, ◌==◌}
+use Rattle.ffi_floats.specs.Boundary.{wrong_length}
 use Rattle.geometry.specs.declared.Point.{Point}
 use Rattle.shape.specs.Refusal.{ShapeOutcome, made, refused, new_of}
 use Rattle.shape.specs.Layout.{shape_floats, shape_at, bounds_at, radii_at}
 use Rattle.containment.specs.Contains.{contains_of}
-
--- this boundary's own number: a slice has the wrong length
-abbrev pub wrong_length : ℕ
-wrong_length = 100
 
 -- the number that is returned, and what is in the lent shape
 pub record ShapeAnswer : Type 0 where
