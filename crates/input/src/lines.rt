@@ -1,7 +1,7 @@
 //! An input line by line, through two buffers that the caller lends, since there is no heap: one for a piece of the
 //! input, one for a line.
 
-ghost use Rattle.std.specs.Prelude.{◌≡◌, true, false, ◌+◌, ◌<◌, ◌≤◌, List, ℕ, ◌++◌, length, Some, OnOk, IfOk, IfSome, IsSome};
+ghost use Rattle.std.specs.Prelude.{◌≡◌, true, false, ◌+◌, ◌<◌, ◌≤◌, List, ℕ, ◌++◌, length, Some, OnOk, IfOk, IfErr, IfSome, IsSome};
 ghost use Rattle.std.specs.Io.KnownBytes.{Keeps, IsAtEnd};
 ghost use Rattle.input.specs.Lines.{too_long_text, rest_of, IsWithin, bytes_left, line_len, first_line, Holds, IsPast};
 
@@ -148,6 +148,9 @@ impl Reader {
         ensures line { self.old.ended ≡ false → IfOk result (λ taken. IfSome taken (λ taken.
             IfSome (bytes_left self.old piece.old (R.remaining input.old)) (λ bytes.
             IfOk taken (λ line. line.now ≡ first_line bytes)))) }
+        ensures too_long { self.old.ended ≡ false → IfOk result (λ taken. IfSome taken (λ taken.
+            IfSome (bytes_left self.old piece.old (R.remaining input.old)) (λ bytes.
+            IfErr taken (λ _. length line.old < length (first_line bytes))))) }
         ensures past { self.old.ended ≡ false → OnOk result (
             IfSome (bytes_left self.old piece.old (R.remaining input.old)) (λ bytes.
             IsPast bytes self.new.ended
