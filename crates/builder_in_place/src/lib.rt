@@ -24,7 +24,7 @@ pub fn move_to(
         ≡ step (state b.old verbs.old points.old) (Call.MoveTo p) }
     ensures refused { IfErr result (λ e. record_of e ≡ b.new) }
 {
-    *b = builder::move_to(*b, verbs, points, p)?;
+    *b = calls::move_to(*b, verbs, points, p)?;
     Ok(())
 }
 
@@ -39,7 +39,7 @@ pub fn line_to(
         ≡ step (state b.old verbs.old points.old) (Call.LineTo p) }
     ensures refused { IfErr result (λ e. record_of e ≡ b.new) }
 {
-    *b = builder::line_to(*b, verbs, points, p)?;
+    *b = calls::line_to(*b, verbs, points, p)?;
     Ok(())
 }
 
@@ -49,7 +49,7 @@ pub fn close(b: &mut Builder, verbs: &mut [u8], points: &mut [f32]) -> Result<()
         ≡ step (state b.old verbs.old points.old) Call.Close }
     ensures refused { IfErr result (λ e. record_of e ≡ b.new) }
 {
-    *b = builder::close(*b, verbs, points)?;
+    *b = calls::close(*b, verbs, points)?;
     Ok(())
 }
 

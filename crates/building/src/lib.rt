@@ -30,18 +30,18 @@ pub fn apply(
         ≡ step (state b verbs.old points.old) call }
 {
     match call {
-        BuildingCall::MoveTo(p) => builder::move_to(b, verbs, points, p).map(Written::from),
-        BuildingCall::LineTo(p) => builder::line_to(b, verbs, points, p).map(Written::from),
+        BuildingCall::MoveTo(p) => calls::move_to(b, verbs, points, p).map(Written::from),
+        BuildingCall::LineTo(p) => calls::line_to(b, verbs, points, p).map(Written::from),
         BuildingCall::QuadTo(ctrl, p) => {
-            builder::quad_to(b, verbs, points, ctrl, p).map(Written::from)
+            calls::quad_to(b, verbs, points, ctrl, p).map(Written::from)
         }
         BuildingCall::ConicTo(ctrl, to, weight) => {
-            builder::conic_to(b, verbs, points, ctrl, to, weight)
+            calls::conic_to(b, verbs, points, ctrl, to, weight)
         }
         BuildingCall::CubicTo(c0, c1, p) => {
-            builder::cubic_to(b, verbs, points, c0, c1, p).map(Written::from)
+            calls::cubic_to(b, verbs, points, c0, c1, p).map(Written::from)
         }
-        BuildingCall::Close => builder::close(b, verbs, points).map(Written::from),
+        BuildingCall::Close => calls::close(b, verbs, points).map(Written::from),
         BuildingCall::AddTo(shape) => {
             outline::add_to(shape, b, verbs, points).map(Written::from)
         }

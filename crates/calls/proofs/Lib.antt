@@ -4,3 +4,4 @@ pub mod Admission
 pub mod Opened
 pub mod Largest
 pub mod Refused
+pub mod Held

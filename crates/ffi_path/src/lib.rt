@@ -88,7 +88,7 @@ pub fn shackletongue_move_to(
     let Some(b) = load(counts, places) else {
         return WRONG_LENGTH;
     };
-    let a = builder::move_to(b, verbs, points, Point { x, y }).map(Written::from);
+    let a = calls::move_to(b, verbs, points, Point { x, y }).map(Written::from);
     store_answer(counts, places, a)
 }
 
@@ -108,7 +108,7 @@ pub fn shackletongue_line_to(
     let Some(b) = load(counts, places) else {
         return WRONG_LENGTH;
     };
-    let a = builder::line_to(b, verbs, points, Point { x, y }).map(Written::from);
+    let a = calls::line_to(b, verbs, points, Point { x, y }).map(Written::from);
     store_answer(counts, places, a)
 }
 
@@ -130,7 +130,7 @@ pub fn shackletongue_quad_to(
     let Some(b) = load(counts, places) else {
         return WRONG_LENGTH;
     };
-    let a = builder::quad_to(b, verbs, points, Point { x: cx, y: cy }, Point { x, y }).map(
+    let a = calls::quad_to(b, verbs, points, Point { x: cx, y: cy }, Point { x, y }).map(
         Written::from,
     );
     store_answer(counts, places, a)
@@ -155,7 +155,7 @@ pub fn shackletongue_conic_to(
     let Some(b) = load(counts, places) else {
         return WRONG_LENGTH;
     };
-    let a = builder::conic_to(
+    let a = calls::conic_to(
         b,
         verbs,
         points,
@@ -186,7 +186,7 @@ pub fn shackletongue_cubic_to(
     let Some(b) = load(counts, places) else {
         return WRONG_LENGTH;
     };
-    let a = builder::cubic_to(
+    let a = calls::cubic_to(
         b,
         verbs,
         points,
@@ -212,6 +212,6 @@ pub fn shackletongue_close(
     let Some(b) = load(counts, places) else {
         return WRONG_LENGTH;
     };
-    let a = builder::close(b, verbs, points).map(Written::from);
+    let a = calls::close(b, verbs, points).map(Written::from);
     store_answer(counts, places, a)
 }

@@ -110,17 +110,8 @@ fn narrow_by_pattern(x: f64) -> f32
     f32::from_bits(((bits >> 63) * 0x8000_0000 + p) as u32)
 }
 
-// Compiled apart, so that the usual case needs no more registers than it uses.
-#[tactic(auto, unfolding(crate::specs::Narrow::narrow_of))]
-#[cold]
-#[inline(never)]
-fn narrow_apart(x: f64) -> f32
-    ensures { result ≡ narrow_of x }
-{
-    std::num::nearest_f64_to_f32_with_nan(x)
-}
-
 /// The f32 nearest to x. Where x is in the range of the normal f32, the usual case, by its pattern, which is quicker.
+#[tactic(auto, unfolding(crate::specs::Narrow::narrow_of))]
 pub fn narrow(x: f64) -> f32
     ensures { result ≡ narrow_of x }
 {
@@ -130,7 +121,7 @@ pub fn narrow(x: f64) -> f32
             return narrow_by_pattern(x);
         }
     }
-    narrow_apart(x)
+    std::num::nearest_f64_to_f32_with_nan(x)
 }
 
 /// `narrow` of a number that is regular. It has no branch, so that several go side by side.

@@ -42,16 +42,16 @@ impl Path<'_> {
     }
 
     fn line_to(&mut self, rt: &impl Print, p: Point) -> io::Result<()> {
-        let a = builder::line_to(self.builder, self.verbs, self.points, p);
+        let a = calls::line_to(self.builder, self.verbs, self.points, p);
         self.keep(rt, a)
     }
 
     fn by_value(&mut self, rt: &impl Print, [p, q, r]: [Point; 3]) -> io::Result<()> {
-        let moved = builder::move_to(self.builder, self.verbs, self.points, p);
+        let moved = calls::move_to(self.builder, self.verbs, self.points, p);
         self.keep(rt, moved)?;
         self.line_to(rt, q)?;
         self.line_to(rt, r)?;
-        let closed = builder::close(self.builder, self.verbs, self.points);
+        let closed = calls::close(self.builder, self.verbs, self.points);
         self.keep(rt, closed)
     }
 

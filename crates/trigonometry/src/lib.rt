@@ -132,10 +132,8 @@ pub fn sin_cos(t: f32) -> SinCos
     ensures { result ≡ sin_cos_of t }
 {
     let p = pair_at(t);
-    SinCos {
-        sin: ieee::narrow(p.s),
-        cos: ieee::narrow(p.c),
-    }
+    let [sin, cos] = lanes::narrow([p.s, p.c]);
+    SinCos { sin, cos }
 }
 
 /// The tangent of the angle t; a NaN where t is a NaN or further than 8 from 0.

@@ -12,8 +12,8 @@ use Rattle.conic_writer.specs.Entries.{plain}
 use Rattle.calls.specs.Calls.{opened_need}
 use Rattle.calls.proofs.Admission.{passed_on}
 use Rattle.calls.proofs.Opened.{one-need, one-room, one-done, one-admitted, opened-refused, opened-counts}
-use Rattle.builder.proofs.Held.{need_held, state_held}
-use Rattle.builder.proofs.add.Goals as goal
+use Rattle.calls.proofs.Held.{need_held, state_held}
+use Rattle.calls.proofs.add.Goals as goal
 
 few : (k : Element) → size_of k ≤ 3
 few (Move p) = omega arith

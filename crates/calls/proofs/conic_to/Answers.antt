@@ -10,7 +10,7 @@ use Rattle.conic_writer.specs.Entries.{plain, lowered_of}
 use Rattle.conic_writer.proofs.Entries.{lowered_line, lowered_flat}
 use Rattle.calls.specs.Calls.{opening, attempt}
 use Rattle.calls.proofs.Opened.{one_marked, conic-step}
-use Rattle.builder.proofs.conic_to.Goals as goal
+use Rattle.calls.proofs.conic_to.Goals as goal
 
 pub returns-in-Line : goal.returns-in-Line
 returns-in-Line c =

@@ -12,7 +12,7 @@ use lib.ListN.{length}
 use native.Mathlib.Omega.{arith}
 use mathlib.Core.List.{[], ◌∷◌}
 use mathlib.Core.Path.{refl, sym, ap, ◌∙◌}
-use Rattle.builder.proofs.close.Goals as goal
+use Rattle.calls.proofs.close.Goals as goal
 
 pub returns-in_err-admit : goal.returns-in_err-admit
 unfolding step entries_of

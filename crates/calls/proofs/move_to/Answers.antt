@@ -11,7 +11,7 @@ use lib.ListN.{length}
 use native.Mathlib.Omega.{arith}
 use mathlib.Core.List.{[], ◌∷◌}
 use mathlib.Core.Path.{sym, ◌∙◌}
-use Rattle.builder.proofs.move_to.Goals as goal
+use Rattle.calls.proofs.move_to.Goals as goal
 
 pub returns-in_err-admit : goal.returns-in_err-admit
 unfolding step entries_of elements_of sizes_of

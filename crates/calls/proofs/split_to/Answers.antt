@@ -12,7 +12,7 @@ use Rattle.conic_writer.proofs.Entries.{lowered_curve, quads-length, quads-sizes
 use Rattle.calls.specs.Calls.{opening}
 use Rattle.calls.proofs.Admission.{conic_passed_on}
 use Rattle.calls.proofs.Opened.{opened-refused, opened-admitted, opened-room, opened-counts, opened-done}
-use Rattle.builder.proofs.split_to.Goals as goal
+use Rattle.calls.proofs.split_to.Goals as goal
 
 pub returns-in_err-admit_lowered : goal.returns-in_err-admit_lowered
 returns-in_err-admit_lowered c =

@@ -9,8 +9,8 @@ use Rattle.stream.specs.Stream.{State, state}
 use Rattle.conic_writer.specs.Entries.{plain}
 use Rattle.calls.proofs.Admission.{passed_on}
 use Rattle.calls.proofs.Opened.{one-need, one-room, one-done, one-admitted, opened-refused, opened-counts}
-use Rattle.builder.proofs.Held.{need_held, state_held}
-use Rattle.builder.proofs.single_to.Goals as goal
+use Rattle.calls.proofs.Held.{need_held, state_held}
+use Rattle.calls.proofs.single_to.Goals as goal
 
 pub returns-in_err-admit : goal.returns-in_err-admit
 returns-in_err-admit c =
