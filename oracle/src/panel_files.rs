@@ -124,10 +124,33 @@ fn overlaps(list: &mut List) {
     outwards.extend(touches);
     list.file(&inwards);
     list.file(&outwards);
-    list.heading("the same shape 40 times");
+    list.heading("the same shape 40 times, and twice");
     list.many(1, &touch(5.0, 5.0));
     list.many(40, &button(&square()));
     list.report();
+    list.file(&[button(&square()), button(&square()), touch(5.0, 5.0)]);
+    list.heading("two shapes partly one over the other, in both orders, the touches first, between or last");
+    let (a, b) = (button(&square()), button(&uniform([5.0; 2], [15.0; 2], [2.0; 2])));
+    let touches = [2.0, 7.0, 12.0, 5.1, 16.0].map(|x| touch(x, x));
+    for (under, over) in [(&a, &b), (&b, &a)] {
+        for at in 0..=2 {
+            let mut records = vec![under.clone(), over.clone()];
+            records.splice(at..at, touches.clone());
+            list.file(&records);
+        }
+    }
+    list.heading("a small shape over a large one and under it, refused ones over, between and under them");
+    let (large, small) = (button(&rounded()), button(&uniform([30.0, 5.0], [50.0, 15.0], [4.0; 2])));
+    let bad = button(&uniform([30.0, 5.0], [50.0, 4.0], [4.0; 2]));
+    let touches = [40.0, 22.0, 58.0].map(|x| touch(x, 10.0));
+    for (under, over) in [(&large, &small), (&small, &large)] {
+        for refused in 0..=2 {
+            let mut records = vec![under.clone(), over.clone()];
+            records.insert(refused, bad.clone());
+            records.extend(touches.clone());
+            list.file(&records);
+        }
+    }
 }
 
 fn refusals(list: &mut List) {

@@ -2,3 +2,4 @@ pub mod Following
 pub mod Counting
 pub mod Walking
 pub mod Opened
+pub mod Buttons
