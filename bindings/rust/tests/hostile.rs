@@ -6,6 +6,10 @@
     clippy::arithmetic_side_effects
 )]
 
+mod stored;
+
+use stored::with_one_nan;
+
 use shackletongue::{
     Button, CornerRadii, Error, Need, Panel, PanelBuilder, Path, PathBuilder, PathRecord, Point,
     Rect, RoundSuperellipse,
@@ -505,11 +509,12 @@ fn any_records_are_written_as_they_are_read() {
                 for p in [bounds.min, bounds.max].into_iter().chain(corners) {
                     file.extend([p.x.to_le_bytes(), p.y.to_le_bytes()].concat());
                 }
-                assert!(file.ends_with(&button.to_bytes()));
+                let record = with_one_nan(&button.to_bytes());
+                assert!(with_one_nan(&file).ends_with(&record));
             }
         }
-        assert_eq!(panel.as_bytes(), file);
-        assert_eq!(Panel::new(&file), Ok(panel.panel()));
+        assert_eq!(with_one_nan(panel.as_bytes()), with_one_nan(&file));
+        assert_eq!(Panel::new(panel.as_bytes()), Ok(panel.panel()));
     }
 }
 

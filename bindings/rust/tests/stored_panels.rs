@@ -1,5 +1,4 @@
-//! Every stored panel file: its report is the original's, and what is read of it is written back
-//! byte for byte.
+//! Every stored panel file: its report is the original's, and what is read of it is written back.
 #![allow(
     clippy::unwrap_used,
     clippy::indexing_slicing,
@@ -7,6 +6,8 @@
 )]
 
 mod stored;
+
+use stored::with_one_nan;
 
 use shackletongue::{Error, Panel, PanelBuilder, PathBuilder, Record};
 
@@ -72,22 +73,24 @@ fn what_is_read_is_written_back() {
             continue;
         };
         let mut builder = PanelBuilder::new();
-        let mut parts = Vec::new();
         for record in panel.records() {
             let before = builder.as_bytes().len();
             builder.add(record).unwrap();
             if let Record::Button(button) = record {
                 assert_eq!(button.to_bytes(), builder.as_bytes()[before..]);
-                parts.extend(button.to_bytes());
-            } else {
-                parts.extend(&file[before..before + 12]);
             }
         }
-        assert_eq!(builder.as_bytes(), file);
-        assert_eq!(parts, file);
-        assert_eq!(builder.panel(), panel);
-        assert_eq!(builder, PanelBuilder::from(panel));
+        assert_eq!(with_one_nan(builder.as_bytes()), with_one_nan(&file));
         assert_eq!(builder.is_empty(), panel.is_empty());
-        assert_eq!(builder.into_bytes(), file);
+        // it is good, and read again it is written the same
+        let read = Panel::new(builder.as_bytes()).unwrap();
+        assert_eq!(read, builder.panel());
+        let mut again = PanelBuilder::new();
+        for record in read {
+            again.add(record).unwrap();
+        }
+        assert_eq!(again, builder);
+        // a copy has every bit
+        assert_eq!(PanelBuilder::from(panel).into_bytes(), file);
     }
 }

@@ -19,7 +19,8 @@ mod tests {
         path.move_to((1.0, 2.0)).unwrap();
         path.line_to((3.0, 4.5)).unwrap();
         path.quad_to((-5.0, 6.0), (7.0, 8.0)).unwrap();
-        path.cubic_to((9.0, 10.0), (11.0, 12.0), (13.0, 14.0)).unwrap();
+        path.cubic_to((9.0, 10.0), (11.0, 12.0), (13.0, 14.0))
+            .unwrap();
         path.close().unwrap();
         path.move_to((20.0, 21.0)).unwrap();
         path.line_to((22.0, 23.0)).unwrap();
@@ -29,15 +30,30 @@ mod tests {
     #[test]
     fn every_segment_arrives_in_kurbo() {
         let path = bez_path(every_kind().path());
-        assert_eq!(path.to_svg(), "M1 2L3 4.5Q-5 6 7 8C9 10 11 12 13 14ZM20 21L22 23");
+        assert_eq!(
+            path.to_svg(),
+            "M1 2L3 4.5Q-5 6 7 8C9 10 11 12 13 14ZM20 21L22 23"
+        );
     }
 
     #[test]
     fn every_segment_arrives_in_lyon() {
         let path = lyon_path(every_kind().path());
         let events: Vec<String> = path.iter().map(|event| format!("{event:?}")).collect();
-        let kinds: Vec<&str> = events.iter().map(|e| e.split([' ', '{']).next().unwrap()).collect();
-        let expected = ["Begin", "Line", "Quadratic", "Cubic", "End", "Begin", "Line", "End"];
+        let kinds: Vec<&str> = events
+            .iter()
+            .map(|e| e.split([' ', '{']).next().unwrap())
+            .collect();
+        let expected = [
+            "Begin",
+            "Line",
+            "Quadratic",
+            "Cubic",
+            "End",
+            "Begin",
+            "Line",
+            "End",
+        ];
         assert_eq!(kinds, expected);
         assert!(events[4].contains("close: true") && events[7].contains("close: false"));
         let mut numbers = Vec::new();
@@ -53,7 +69,15 @@ mod tests {
         let bounds = Rect::new((10.0, 20.0), (110.0, 80.0));
         let shape = RoundSuperellipse::new(bounds, CornerRadii::uniform(20.0)).unwrap();
         let path = bez_path(shape.to_path().unwrap().path());
-        assert_eq!(path.bounding_box(), kurbo::Rect::new(10.0, 20.0, 110.0, 80.0));
+        let found = path.bounding_box();
+        for (found, size) in [
+            (found.x0, 10.0),
+            (found.y0, 20.0),
+            (found.x1, 110.0),
+            (found.y1, 80.0),
+        ] {
+            assert!((found - size).abs() < 1e-6, "{found} {size}");
+        }
         assert_ne!(path.winding(kurbo::Point::new(60.0, 50.0)), 0);
         assert_eq!(path.winding(kurbo::Point::new(11.0, 21.0)), 0);
         let steps = 200;
@@ -65,7 +89,11 @@ mod tests {
             inside += usize::from(shape.contains(point));
         }
         let area = inside as f64 / (steps * steps) as f64 * 6000.0;
-        assert!((path.area().abs() - area).abs() < 10.0, "{} {area}", path.area());
+        assert!(
+            (path.area().abs() - area).abs() < 10.0,
+            "{} {area}",
+            path.area()
+        );
     }
 
     #[test]

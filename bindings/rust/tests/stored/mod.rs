@@ -1,4 +1,6 @@
 //! The panel files that the repository stores, good and broken, with the original's reports.
+// each test takes what it needs
+#![allow(dead_code)]
 
 use std::fs;
 
@@ -42,6 +44,19 @@ pub fn panels() -> Vec<(Vec<u8>, String)> {
     }
     assert_eq!(reports.next(), None);
     panels
+}
+
+/// A panel file with one NaN for all: sign and payload say nothing, and need not come back.
+pub fn with_one_nan(file: &[u8]) -> Vec<u8> {
+    let words = file.chunks(4).map(|word| {
+        let float = word.try_into().map(f32::from_le_bytes);
+        if float.is_ok_and(f32::is_nan) {
+            vec![0xff; 4]
+        } else {
+            word.to_vec()
+        }
+    });
+    words.flatten().collect()
 }
 
 /// A number of 1, 2 or 4 bytes, the lowest first.
