@@ -86,7 +86,7 @@ impl Error {
             Error::BeyondLimit => "mend the number, or draw at a smaller scale",
             Error::NegativeRadius => "give every radius as 0 or more",
             Error::Inverted => "exchange min and max on that axis",
-            Error::NoRoom => "give more room, or put less in",
+            Error::NoRoom => "give more room, or put less in; a panel file has at most 65536 bytes",
             Error::Malformed { .. } => "pass the verbs and points that the calls have written",
             Error::BrokenFile { .. } => {
                 "write it anew, with whole buttons and touches and at most 65536 bytes"

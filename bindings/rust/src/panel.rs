@@ -198,7 +198,8 @@ fn record_at(file: &[u8], offset: u64) -> Result<Option<(Record, u64)>, Error> {
     })
 }
 
-/// Writes a panel file, record by record. A record that is refused has changed nothing.
+/// Writes a panel file, record by record. A record that is refused has changed nothing. Of a NaN
+/// neither sign nor payload need come back.
 ///
 /// ```
 /// use shackletongue::{Button, CornerRadii, Error, Panel, PanelBuilder, Rect};

@@ -18,9 +18,9 @@ usage: cut [--all] [FILE] > PICTURE
   -h, --help     this text
   -V, --version  the versions of program and library
 
-A unit of the panel is a millimetre. The picture ends where the outlines end. A button
-whose shape is refused, or whose outline and touch area part company, is left out and
-listed on standard error; the program inspect says more.
+A unit of the panel is a millimetre. The picture is as large as the bounds of what it
+shows. A button whose shape is refused, or whose outline and touch area part company, is
+left out and listed on standard error; the program inspect says more.
 
 exit status: 0 every button is drawn; 1 the file is refused, a button is left out, or
 there is nothing to draw and no picture; 2 wrong usage; 3 the file cannot be read, or
@@ -122,10 +122,26 @@ impl Sheet {
 
 fn outline(button: &Button) -> Result<Outline, Error> {
     let path = button.shape()?.to_path()?;
+    let bounds = button.bounds;
     Ok(Outline {
         data: path.to_svg()?,
-        extent: path.bounding_box().unwrap_or_default(),
+        extent: match path.bounding_box() {
+            Some(drawn) if !is_within(drawn, bounds) => bounds.union(drawn),
+            _ => bounds,
+        },
     })
+}
+
+/// Whether an outline goes over its bounds by no more than its line does, so that they are all that
+/// is seen of it.
+fn is_within(drawn: Rect, bounds: Rect) -> bool {
+    let half = HAIRLINE / 2.0;
+    let (low, high) = (bounds.min, bounds.max);
+    let (min, max) = (drawn.min, drawn.max);
+    low.x - half <= min.x
+        && low.y - half <= min.y
+        && max.x <= high.x + half
+        && max.y <= high.y + half
 }
 
 fn cut(panel: Panel<'_>, all: bool) -> Outcome {
