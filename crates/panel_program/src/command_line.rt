@@ -161,7 +161,7 @@ fn status<R: Env + Files + Input + Print + Eprint + AllocGlobal, P: Report>(
         Ok(words) => words,
         Err(error) if error.kind() == ErrorKind::InvalidData => {
             let _ = eprintln!(rt;
-                "{name}: a name that is not UTF-8: give that file on standard input"
+                "{name}: the name of a file must be UTF-8: give this one on standard input"
             );
             return USAGE_STATUS;
         }

@@ -79,6 +79,39 @@ fn put<P: Report>(file: &[u8], out: &mut [u8]) -> usize
     P::put(file, out.as_mut_array().unwrap())
 }
 
+// `run` by way of two buffers, one for the file and one for its report.
+fn run_within<R: Read, W: Write, P: Report>(
+    input: &mut R,
+    output: &mut W,
+    file: &mut [u8],
+    out: &mut [u8],
+) -> Result<Verdict, RunError>
+    requires file { length file.old ≡ 65537 }
+    requires out { length out.old ≡ 393288 }
+    ensures verdict { IfOk result (λ verdict. IfSome (R.remaining input.old) (λ bytes.
+        verdict ≡ verdict_of (take 65537 bytes))) }
+    ensures written { OnOk result (IfSome (R.remaining input.old) (λ bytes.
+        Appends (W.contents output.old) (W.contents output.new) (P.text (take 65537 bytes)))) }
+    ensures unread { IfErr result (λ error. NothingWritten error output.old output.new) }
+{
+    let n = match input::fill(input, file) {
+        Ok(n) => n,
+        Err(error) => return Err(RunError::Read(error)),
+    };
+    let length = put::<P>(&file[..n], out);
+    match output.write_all(&out[..length]) {
+        Ok(()) => Ok(verdict_on(&file[..n])),
+        Err(error) => Err(RunError::Write(error)),
+    }
+}
+
+fn buffer(alloc: Global, len: usize) -> Result<Vec<u8>, RunError>
+    ensures len { IfOk result (λ bytes. length bytes.items ≡ len) }
+    ensures err { IfErr result (λ error. error ≡ Memory) }
+{
+    Ok(vec![in alloc; 0u8; len]?)
+}
+
 /// Writes the report on an input: on all of it, or on its first 65,537 bytes, which are one more than the longest
 /// panel file has; the answer says whether these are a good file. Of an input that cannot be read nothing is written.
 /// The file and its report stand on the heap, since a stack may be small.
@@ -93,18 +126,9 @@ pub fn run<R: Read, W: Write, P: Report>(
         Appends (W.contents output.old) (W.contents output.new) (P.text (take 65537 bytes)))) }
     ensures unread { IfErr result (λ error. NothingWritten error output.old output.new) }
 {
-    let mut file = vec![in alloc; 0u8; 65537]?;
-    let mut out = vec![in alloc; 0u8; 393288]?;
-    let n = match input::fill(input, file.as_mut_slice()) {
-        Ok(n) => n,
-        Err(error) => return Err(RunError::Read(error)),
-    };
-    let file = &file.as_slice()[..n];
-    let length = put::<P>(file, out.as_mut_slice());
-    match output.write_all(&out.as_slice()[..length]) {
-        Ok(()) => Ok(verdict_on(file)),
-        Err(error) => Err(RunError::Write(error)),
-    }
+    let mut file = buffer(alloc, 65537)?;
+    let mut out = buffer(alloc, 393288)?;
+    run_within::<_, _, P>(input, output, file.as_mut_slice(), out.as_mut_slice())
 }
 
 /// The exit status of a run.
