@@ -1,6 +1,7 @@
 use std::fmt;
 use std::iter::FusedIterator;
 
+use crate::memory::{lengthen, reserve};
 use crate::{raw, Button, Error, Point};
 
 /// A record of a panel file.
@@ -12,7 +13,13 @@ pub enum Record {
     Touch(Point),
 }
 
-/// A panel file that was found good.
+impl From<Button> for Record {
+    fn from(button: Button) -> Record {
+        Record::Button(button)
+    }
+}
+
+/// A panel file that was found good. Two are equal if their bytes are.
 ///
 /// ```
 /// use shackletongue::{Error, Panel};
@@ -29,13 +36,13 @@ pub enum Record {
 /// assert_eq!(panel.records().count(), 2);
 /// assert_eq!(panel.touch((5.0, 5.0)), Some(0));
 /// assert_eq!(panel.touch((10.0, 10.0)), None);
-/// assert_eq!(panel.touch_all(), [Some(0)]);
+/// assert_eq!(panel.touch_all()?, [Some(0)]);
 ///
 /// file.pop();
-/// assert_eq!(Panel::new(&file).unwrap_err(), Error::BrokenFile { offset: 52 });
+/// assert_eq!(Panel::new(&file), Err(Error::BrokenFile { offset: 52 }));
 /// # Ok::<(), Error>(())
 /// ```
-#[derive(Clone, Copy)]
+#[derive(Clone, Copy, PartialEq, Eq, Hash)]
 pub struct Panel<'a> {
     file: &'a [u8],
 }
@@ -55,8 +62,15 @@ impl<'a> Panel<'a> {
     }
 
     /// The bytes of the file.
+    #[must_use]
     pub const fn file(&self) -> &'a [u8] {
         self.file
+    }
+
+    /// Whether it has no records.
+    #[must_use]
+    pub const fn is_empty(&self) -> bool {
+        self.file.is_empty()
     }
 
     /// The records, in file order.
@@ -85,6 +99,7 @@ impl<'a> Panel<'a> {
 
     /// The index of the first button that contains the point; one whose shape is refused contains
     /// nothing.
+    #[must_use]
     pub fn touch(&self, point: impl Into<Point>) -> Option<usize> {
         let point = point.into();
         let mut place = [0];
@@ -95,16 +110,24 @@ impl<'a> Panel<'a> {
 
     /// [`touch`](Panel::touch) for each of the file's touches, in file order; each shape is made
     /// once.
-    pub fn touch_all(&self) -> Vec<Option<usize>> {
-        let (mut results, mut place) = ([raw::NOWHERE; raw::RESULTS], [0]);
-        let number = raw::touch_all(self.file, &mut results, &mut place);
-        let [count] = place;
-        let count = if number == 0 { count as usize } else { 0 };
-        results
-            .iter()
-            .take(count)
-            .map(|&index| (index != raw::NOWHERE).then_some(index as usize))
-            .collect()
+    ///
+    /// # Errors
+    ///
+    /// [`Error::NoRoom`] where there is no memory for the answers.
+    pub fn touch_all(&self) -> Result<Vec<Option<usize>>, Error> {
+        // On the heap, since the library takes most of what a small thread has of stack.
+        let (mut results, mut answers) = (Vec::new(), Vec::new());
+        lengthen(&mut results, raw::RESULTS)?;
+        let mut count = [0];
+        if let Ok(results) = results.as_mut_slice().try_into() {
+            // The file is good, so this is not refused.
+            raw::touch_all(self.file, results, &mut count);
+        }
+        let [count] = count;
+        let found = results.iter().take(count as usize);
+        reserve(&mut answers, found.len())?;
+        answers.extend(found.map(|&index| (index != raw::NOWHERE).then_some(index as usize)));
+        Ok(answers)
     }
 }
 
@@ -125,6 +148,12 @@ impl<'a> TryFrom<&'a [u8]> for Panel<'a> {
     }
 }
 
+impl AsRef<[u8]> for Panel<'_> {
+    fn as_ref(&self) -> &[u8] {
+        self.file
+    }
+}
+
 impl<'a> IntoIterator for Panel<'a> {
     type Item = Record;
     type IntoIter = Records<'a>;
@@ -136,6 +165,7 @@ impl<'a> IntoIterator for Panel<'a> {
 
 /// The records of a panel, in file order.
 #[derive(Clone, Debug)]
+#[must_use]
 pub struct Records<'a> {
     panel: Panel<'a>,
     offset: u64,
@@ -162,8 +192,130 @@ fn record_at(file: &[u8], offset: u64) -> Result<Option<(Record, u64)>, Error> {
     Error::check(number, next)?;
     let [x, y, ..] = floats;
     Ok(match kind {
-        1 => Some((Record::Button(Button::from_sizes(&floats)), next)),
-        2 => Some((Record::Touch(Point::new(x, y)), next)),
+        raw::BUTTON => Some((Record::Button(Button::from_sizes(&floats)), next)),
+        raw::TOUCH => Some((Record::Touch(Point::new(x, y)), next)),
         _ => None,
     })
+}
+
+/// Writes a panel file, record by record. A record that is refused has changed nothing. Of a NaN
+/// neither sign nor payload need come back.
+///
+/// ```
+/// use shackletongue::{Button, CornerRadii, Error, Panel, PanelBuilder, Rect};
+///
+/// let mut panel = PanelBuilder::new();
+/// panel.add_button(Button {
+///     bounds: Rect::new((0.0, 0.0), (40.0, 24.0)),
+///     radii: CornerRadii::uniform(8.0),
+/// })?;
+/// panel.add_touch((20.0, 12.0))?;
+/// assert_eq!(panel.panel().touch_all()?, [Some(0)]);
+///
+/// let file = panel.as_bytes(); // to be written to a file
+/// assert_eq!(Panel::new(file)?, panel.panel());
+/// # Ok::<(), Error>(())
+/// ```
+#[derive(Clone, Default, PartialEq, Eq)]
+pub struct PanelBuilder {
+    file: Vec<u8>,
+}
+
+impl PanelBuilder {
+    /// A panel without records.
+    #[must_use]
+    pub const fn new() -> PanelBuilder {
+        PanelBuilder { file: Vec::new() }
+    }
+
+    /// Puts a button behind what there is. Its shape is not made: it may be one that is refused.
+    ///
+    /// # Errors
+    ///
+    /// This and the other two: [`Error::NoRoom`] where the file would pass 65,536 bytes, or where
+    /// there is no memory.
+    pub fn add_button(&mut self, button: impl Into<Button>) -> Result<(), Error> {
+        self.put(raw::BUTTON, &button.into().sizes())
+    }
+
+    /// Puts a touch behind what there is.
+    ///
+    /// # Errors
+    ///
+    /// As [`add_button`](PanelBuilder::add_button).
+    pub fn add_touch(&mut self, point: impl Into<Point>) -> Result<(), Error> {
+        let Point { x, y } = point.into();
+        self.put(
+            raw::TOUCH,
+            &[x, y, 0.0, 0.0, 0.0, 0.0, 0.0, 0.0, 0.0, 0.0, 0.0, 0.0],
+        )
+    }
+
+    /// Puts a record of either kind behind what there is.
+    ///
+    /// # Errors
+    ///
+    /// As [`add_button`](PanelBuilder::add_button).
+    pub fn add(&mut self, record: Record) -> Result<(), Error> {
+        match record {
+            Record::Button(button) => self.add_button(button),
+            Record::Touch(point) => self.add_touch(point),
+        }
+    }
+
+    /// Whether there is no record.
+    #[must_use]
+    pub fn is_empty(&self) -> bool {
+        self.file.is_empty()
+    }
+
+    /// The panel, to be read.
+    #[must_use]
+    pub fn panel(&self) -> Panel<'_> {
+        // Whole records only, and no more than a file may have: it is good.
+        Panel { file: &self.file }
+    }
+
+    /// The bytes of the file.
+    #[must_use]
+    pub fn as_bytes(&self) -> &[u8] {
+        &self.file
+    }
+
+    /// The bytes of the file, without a copy.
+    #[must_use]
+    pub fn into_bytes(self) -> Vec<u8> {
+        self.file
+    }
+
+    /// Puts a record of this kind behind what there is.
+    fn put(&mut self, kind: u64, floats: &raw::Sizes) -> Result<(), Error> {
+        /// A button's record, which is the longer one.
+        const LONGEST: usize = 52;
+        let end = self.file.len();
+        // More than is needed, so that not every record moves the file.
+        self.file.try_reserve(LONGEST).map_err(|_| Error::NoRoom)?;
+        lengthen(&mut self.file, end.saturating_add(LONGEST))?;
+        let mut place = [end as u64, kind];
+        let number = raw::put_record(&mut self.file, &mut place, floats);
+        // The end of what was written; of nothing where it was refused.
+        let [end, _] = place;
+        self.file.truncate(end as usize);
+        Error::check(number, end)
+    }
+}
+
+impl fmt::Debug for PanelBuilder {
+    fn fmt(&self, f: &mut fmt::Formatter<'_>) -> fmt::Result {
+        f.debug_tuple("PanelBuilder").field(&self.panel()).finish()
+    }
+}
+
+impl From<Panel<'_>> for PanelBuilder {
+    /// A panel that begins with these records.
+    fn from(panel: Panel<'_>) -> PanelBuilder {
+        PanelBuilder {
+            file: panel.file.to_vec(),
+        }
+    }
 }

@@ -1,7 +1,8 @@
-use std::fmt;
+use std::fmt::{self, Write as _};
 use std::iter::FusedIterator;
 
-use crate::{raw, Error, Point, Rect, RoundSuperellipse};
+use crate::memory::Text;
+use crate::{raw, Error, Point, Rect};
 
 /// How much room a call takes.
 #[derive(Clone, Copy, Debug, Default, PartialEq, Eq, Hash)]
@@ -35,15 +36,22 @@ pub struct PathRecord {
 }
 
 impl PathRecord {
-    const fn counts(self) -> raw::Counts {
+    pub(crate) const EMPTY: PathRecord = PathRecord {
+        verbs: 0,
+        points: 0,
+        start: Point::new(0.0, 0.0),
+        pen: Point::new(0.0, 0.0),
+    };
+
+    pub(crate) const fn counts(self) -> raw::Counts {
         [self.verbs as u64, self.points as u64, 0]
     }
 
-    const fn places(self) -> raw::Places {
+    pub(crate) const fn places(self) -> raw::Places {
         [self.start.x, self.start.y, self.pen.x, self.pen.y]
     }
 
-    const fn from_raw(counts: &raw::Counts, places: &raw::Places) -> PathRecord {
+    pub(crate) const fn from_raw(counts: &raw::Counts, places: &raw::Places) -> PathRecord {
         let [verbs, points, _] = *counts;
         let [start_x, start_y, pen_x, pen_y] = *places;
         PathRecord {
@@ -55,8 +63,21 @@ impl PathRecord {
     }
 }
 
-/// A part of a path. Written out it is SVG path data, each float with as many digits as it takes to
-/// read the same float back.
+/// A part of a path.
+///
+/// Written out it is a command of SVG path data, each number with as many digits as it takes to read
+/// the same float back, or with as many behind the point as the format asks for. SVG has no word for
+/// a NaN or an infinity: a 0 and the greatest float stand in for them, so that what is printed can
+/// be read. [`Path::to_svg`] refuses them.
+///
+/// ```
+/// use shackletongue::{Point, Segment};
+///
+/// let line = Segment::Line(Point::new(0.1, -2.5));
+/// assert_eq!(line.to_string(), "L0.1 -2.5");
+/// assert_eq!(format!("{line:.2}"), "L0.10 -2.50");
+/// assert_eq!(Segment::Move(Point::new(f32::NAN, 1.0)).to_string(), "M0 1");
+/// ```
 #[derive(Clone, Copy, Debug, PartialEq)]
 pub enum Segment {
     /// A contour starts here.
@@ -71,21 +92,57 @@ pub enum Segment {
     Close,
 }
 
-impl fmt::Display for Segment {
-    fn fmt(&self, f: &mut fmt::Formatter<'_>) -> fmt::Result {
+impl Segment {
+    /// Whether no coordinate is a NaN or infinite.
+    #[must_use]
+    pub const fn is_finite(&self) -> bool {
         match self {
-            Segment::Move(p) => write!(f, "M{} {}", p.x, p.y),
-            Segment::Line(p) => write!(f, "L{} {}", p.x, p.y),
-            Segment::Quad(p, q) => write!(f, "Q{} {} {} {}", p.x, p.y, q.x, q.y),
-            Segment::Cubic(p, q, r) => {
-                write!(f, "C{} {} {} {} {} {}", p.x, p.y, q.x, q.y, r.x, r.y)
-            }
-            Segment::Close => f.write_str("Z"),
+            Segment::Move(p) | Segment::Line(p) => p.is_finite(),
+            Segment::Quad(p, q) => p.is_finite() && q.is_finite(),
+            Segment::Cubic(p, q, r) => p.is_finite() && q.is_finite() && r.is_finite(),
+            Segment::Close => true,
         }
     }
 }
 
-/// A path to be read: a record over buffers that may hold anything.
+impl fmt::Display for Segment {
+    fn fmt(&self, f: &mut fmt::Formatter<'_>) -> fmt::Result {
+        match self {
+            Segment::Move(p) => command(f, "M", &[*p]),
+            Segment::Line(p) => command(f, "L", &[*p]),
+            Segment::Quad(p, q) => command(f, "Q", &[*p, *q]),
+            Segment::Cubic(p, q, r) => command(f, "C", &[*p, *q, *r]),
+            Segment::Close => command(f, "Z", &[]),
+        }
+    }
+}
+
+/// A command with its points.
+fn command(f: &mut fmt::Formatter<'_>, letter: &str, points: &[Point]) -> fmt::Result {
+    f.write_str(letter)?;
+    for (i, x) in points.iter().flat_map(|p| [p.x, p.y]).enumerate() {
+        if i > 0 {
+            f.write_str(" ")?;
+        }
+        let x = if x.is_nan() {
+            0.0
+        } else {
+            x.clamp(f32::MIN, f32::MAX)
+        };
+        match f.precision() {
+            Some(digits) => write!(f, "{x:.digits$}")?,
+            None => write!(f, "{x}")?,
+        }
+    }
+    Ok(())
+}
+
+/// A path to be read: a record over buffers that may hold anything. Nothing is tested until it is
+/// read or [checked](Path::check).
+///
+/// Two paths are equal if they hold as many verbs and points, and these are the same, each float bit
+/// by bit: a NaN equals itself, and 0 is not -0. Start, pen and what lies in the buffers behind the
+/// path do not count.
 #[derive(Clone, Copy)]
 pub struct Path<'a> {
     counts: raw::Counts,
@@ -96,19 +153,21 @@ pub struct Path<'a> {
 
 impl<'a> Path<'a> {
     /// The path of this record in these buffers: a byte per verb (0 move, 1 line, 2 quad, 3 cubic,
-    /// 4 close), two floats per point. Nothing is tested yet; reading answers what is wrong with
-    /// it.
+    /// 4 close), two floats per point.
     ///
     /// ```
     /// use shackletongue::{Error, Path, PathRecord};
     ///
     /// let record = PathRecord { verbs: 2, points: 1, ..PathRecord::default() };
-    /// let mut segments = Path::new(record, &[0, 9], &[1.0, 2.0]).segments();
+    /// let path = Path::new(record, &[0, 9], &[1.0, 2.0]);
+    /// let mut segments = path.segments();
     /// assert_eq!(segments.next().unwrap()?.to_string(), "M1 2");
     /// assert_eq!(segments.next(), Some(Err(Error::Malformed { verb: 1 })));
     /// assert_eq!(segments.next(), None);
+    /// assert_eq!(path.check(), Err(Error::Malformed { verb: 1 }));
     /// # Ok::<(), Error>(())
     /// ```
+    #[must_use]
     pub const fn new(record: PathRecord, verbs: &'a [u8], points: &'a [f32]) -> Path<'a> {
         Path {
             counts: record.counts(),
@@ -118,18 +177,41 @@ impl<'a> Path<'a> {
         }
     }
 
+    pub(crate) const fn from_raw(
+        counts: raw::Counts,
+        places: raw::Places,
+        verbs: &'a [u8],
+        points: &'a [f32],
+    ) -> Path<'a> {
+        Path {
+            counts,
+            places,
+            verbs,
+            points,
+        }
+    }
+
     /// Its record.
+    #[must_use]
     pub const fn record(&self) -> PathRecord {
         PathRecord::from_raw(&self.counts, &self.places)
     }
 
+    /// Whether its record counts no verbs.
+    #[must_use]
+    pub const fn is_empty(&self) -> bool {
+        self.record().verbs == 0
+    }
+
     /// The verbs that are held; none where the record counts more than there are.
+    #[must_use]
     pub fn verbs(&self) -> &'a [u8] {
         self.verbs.get(..self.record().verbs).unwrap_or_default()
     }
 
     /// The floats of the points that are held, x and y in turn; none where the record counts more
     /// than there are.
+    #[must_use]
     pub fn points(&self) -> &'a [f32] {
         let floats = self.record().points.saturating_mul(2);
         self.points.get(..floats).unwrap_or_default()
@@ -144,12 +226,22 @@ impl<'a> Path<'a> {
         }
     }
 
+    /// The path as one that was read to its end without an error: its segments are no results.
+    ///
+    /// # Errors
+    ///
+    /// [`Error::BadRecord`] or [`Error::Malformed`].
+    pub fn check(&self) -> Result<CheckedPath<'a>, Error> {
+        self.bounding_box()?;
+        Ok(CheckedPath(*self))
+    }
+
     /// The least box round the points of all segments, controls included; points that are not
     /// finite are passed over, and where none is left there is no box.
     ///
     /// # Errors
     ///
-    /// [`Error::BadRecord`] or [`Error::Malformed`].
+    /// As [`check`](Path::check).
     pub fn bounding_box(&self) -> Result<Option<Rect>, Error> {
         /// The number of an empty box.
         const NONE: u32 = 101;
@@ -163,6 +255,20 @@ impl<'a> Path<'a> {
         Ok(Some(Rect::new((min_x, min_y), (max_x, max_y))))
     }
 
+    /// The path as SVG path data, every float with all its digits; nothing of an empty path.
+    ///
+    /// A path that does not begin with a move, which no builder makes, is drawn from (0, 0), as
+    /// building calls on an empty path are.
+    ///
+    /// # Errors
+    ///
+    /// As [`check`](Path::check), then [`Error::NotFinite`] where a coordinate is a NaN or infinite:
+    /// SVG has no word for it, and what a picture without it shows would not be the path.
+    /// [`Error::NoRoom`] where there is not so much memory.
+    pub fn to_svg(&self) -> Result<String, Error> {
+        self.check()?.to_svg()
+    }
+
     const fn held(&self) -> raw::Held<'_> {
         raw::Held {
             counts: &self.counts,
@@ -172,6 +278,22 @@ impl<'a> Path<'a> {
         }
     }
 }
+
+impl PartialEq for Path<'_> {
+    fn eq(&self, other: &Path<'_>) -> bool {
+        let counts = |path: &Path<'_>| (path.record().verbs, path.record().points);
+        let bits = |float: &f32| float.to_bits();
+        counts(self) == counts(other)
+            && self.verbs() == other.verbs()
+            && self
+                .points()
+                .iter()
+                .map(bits)
+                .eq(other.points().iter().map(bits))
+    }
+}
+
+impl Eq for Path<'_> {}
 
 impl fmt::Debug for Path<'_> {
     fn fmt(&self, f: &mut fmt::Formatter<'_>) -> fmt::Result {
@@ -190,12 +312,21 @@ impl<'a> IntoIterator for Path<'a> {
     }
 }
 
-/// The segments of a path. An error is the last item.
+/// The segments of a path that was not checked. An error is the last item.
 #[derive(Clone, Debug)]
+#[must_use]
 pub struct Segments<'a> {
     path: Path<'a>,
     cursor: [u64; 2],
     ended: bool,
+}
+
+impl Segments<'_> {
+    /// The verbs that are still to be read, if the record suits the buffers.
+    fn left(&self) -> usize {
+        let [read, _] = self.cursor;
+        self.path.verbs().len().saturating_sub(read as usize)
+    }
 }
 
 impl Iterator for Segments<'_> {
@@ -231,354 +362,147 @@ impl Iterator for Segments<'_> {
 
     fn size_hint(&self) -> (usize, Option<usize>) {
         // A bad record gives one error, whatever it counts.
-        let left = self
-            .path
-            .verbs()
-            .len()
-            .saturating_sub(self.cursor[0] as usize);
-        (0, Some(if self.ended { 0 } else { left.max(1) }))
+        (0, Some(if self.ended { 0 } else { self.left().max(1) }))
     }
 }
 
 impl FusedIterator for Segments<'_> {}
 
-/// Where a builder writes.
-enum Buffers<'a> {
-    Owned {
-        verbs: Vec<u8>,
-        points: Vec<f32>,
-        grow: bool,
-    },
-    Lent {
-        verbs: &'a mut [u8],
-        points: &'a mut [f32],
-    },
-}
-
-/// Builds a path by seven calls: in memory of its own, which grows or not, or in memory that is
-/// lent. A call that is refused has changed nothing.
+/// A path that was read to its end without an error: one that [`Path::check`] found good, or one
+/// that a builder holds.
+///
+/// Equality is that of [`Path`].
 ///
 /// ```
-/// use shackletongue::{CornerRadii, Error, PathBuilder, Rect, RoundSuperellipse, Segment};
+/// use shackletongue::{Error, PathBuilder, Segment};
 ///
-/// let bounds = Rect::new((0.0, 0.0), (10.0, 10.0));
-/// let square = RoundSuperellipse::new(bounds, CornerRadii::uniform(0.0))?;
 /// let mut path = PathBuilder::new();
-/// path.add(&square)?;
-/// assert_eq!((path.record().verbs, path.record().points), (11, 10));
-/// assert_eq!(path.segments().next(), Some(Ok(Segment::Move((5.0, 0.0).into()))));
-/// assert_eq!(path.bounding_box()?, Some(bounds));
-///
-/// let (mut verbs, mut points) = ([0; 10], [0.0; 20]);
-/// let mut lent = PathBuilder::lent(&mut verbs, &mut points);
-/// assert_eq!(lent.add(&square), Err(Error::NoRoom));
-/// assert_eq!(lent.record().verbs, 0);
+/// path.line_to((3.0, 4.0))?;
+/// let path = path.path();
+/// let lengths: Vec<_> = path.segments().map(|segment| segment.to_string().len()).collect();
+/// assert_eq!(lengths, [4, 4]);
+/// assert_eq!(path.to_svg()?, "M0 0L3 4");
 /// # Ok::<(), Error>(())
 /// ```
-pub struct PathBuilder<'a> {
-    counts: raw::Counts,
-    places: raw::Places,
-    buffers: Buffers<'a>,
-}
+#[derive(Clone, Copy, PartialEq, Eq)]
+pub struct CheckedPath<'a>(Path<'a>);
 
-impl PathBuilder<'static> {
-    /// An empty path in memory that grows by need.
-    pub const fn new() -> PathBuilder<'static> {
-        PathBuilder::over(
-            PathRecord::EMPTY,
-            Buffers::Owned {
-                verbs: Vec::new(),
-                points: Vec::new(),
-                grow: true,
-            },
-        )
+impl<'a> CheckedPath<'a> {
+    /// The path that a builder holds: only the library's calls have written it.
+    pub(crate) const fn of_builder(path: Path<'a>) -> CheckedPath<'a> {
+        CheckedPath(path)
     }
 
-    /// An empty path in memory of its own for so many verbs and points, and no more.
-    ///
-    /// # Errors
-    ///
-    /// [`Error::NoRoom`] where there is not so much memory.
-    pub fn fixed(room: Need) -> Result<PathBuilder<'static>, Error> {
-        let (mut verbs, mut points) = (Vec::new(), Vec::new());
-        extend(&mut verbs, room.verbs)?;
-        extend(&mut points, room.points.saturating_mul(2))?;
-        let buffers = Buffers::Owned {
-            verbs,
-            points,
-            grow: false,
-        };
-        Ok(PathBuilder::over(PathRecord::EMPTY, buffers))
-    }
-}
-
-impl PathRecord {
-    const EMPTY: PathRecord = PathRecord {
-        verbs: 0,
-        points: 0,
-        start: Point::new(0.0, 0.0),
-        pen: Point::new(0.0, 0.0),
-    };
-}
-
-/// Lengthens a buffer to `len` elements.
-fn extend<T: Clone + Default>(buffer: &mut Vec<T>, len: usize) -> Result<(), Error> {
-    let more = len.saturating_sub(buffer.len());
-    buffer.try_reserve_exact(more).map_err(|_| Error::NoRoom)?;
-    buffer.resize(len.max(buffer.len()), T::default());
-    Ok(())
-}
-
-impl<'a> PathBuilder<'a> {
-    const fn over(record: PathRecord, buffers: Buffers<'a>) -> PathBuilder<'a> {
-        PathBuilder {
-            counts: record.counts(),
-            places: record.places(),
-            buffers,
-        }
-    }
-
-    /// An empty path in lent memory: a byte per verb, two floats per point.
-    pub const fn lent(verbs: &'a mut [u8], points: &'a mut [f32]) -> PathBuilder<'a> {
-        PathBuilder::resume(PathRecord::EMPTY, verbs, points)
-    }
-
-    /// A path that was begun before. The record may be anything; one that does not fit the memory
-    /// makes every call answer [`Error::BadRecord`].
-    pub const fn resume(
-        record: PathRecord,
-        verbs: &'a mut [u8],
-        points: &'a mut [f32],
-    ) -> PathBuilder<'a> {
-        PathBuilder::over(record, Buffers::Lent { verbs, points })
-    }
-
-    /// Starts a contour.
-    ///
-    /// # Errors
-    ///
-    /// This and the other building calls: [`Error::BadRecord`] or [`Error::NoRoom`].
-    pub fn move_to(&mut self, to: impl Into<Point>) -> Result<(), Error> {
-        let to = to.into();
-        self.build(|_| PLAIN, |lent| lent.move_to(to.x, to.y))
-    }
-
-    /// A line. On an empty path, as the curves, it first adds a move to (0, 0).
-    ///
-    /// # Errors
-    ///
-    /// As [`move_to`](PathBuilder::move_to).
-    pub fn line_to(&mut self, to: impl Into<Point>) -> Result<(), Error> {
-        let to = to.into();
-        self.build(|_| PLAIN, |lent| lent.line_to(to.x, to.y))
-    }
-
-    /// A quadratic curve.
-    ///
-    /// # Errors
-    ///
-    /// As [`move_to`](PathBuilder::move_to).
-    pub fn quad_to(
-        &mut self,
-        control: impl Into<Point>,
-        to: impl Into<Point>,
-    ) -> Result<(), Error> {
-        let (c, to) = (control.into(), to.into());
-        self.build(|_| PLAIN, |lent| lent.quad_to(c.x, c.y, to.x, to.y))
-    }
-
-    /// A conic section, lowered to 1 to 64 quads; a line where the weight is not finite or at most
-    /// 0, or a point is not finite. The answer is the joint word: the conic is 0 to 64, and bit k
-    /// is set where a quad starts at k; it is 0 for a line.
-    ///
-    /// ```
-    /// # use shackletongue::{Error, PathBuilder};
-    /// let mut path = PathBuilder::new();
-    /// assert_eq!(path.conic_to((1.0, 0.0), (2.0, 0.0), 1.0)?, 1);
-    /// assert_eq!(path.conic_to((1.0, 0.0), (2.0, 0.0), f32::NAN)?, 0);
-    /// # Ok::<(), Error>(())
-    /// ```
-    ///
-    /// # Errors
-    ///
-    /// As [`move_to`](PathBuilder::move_to).
-    pub fn conic_to(
-        &mut self,
-        control: impl Into<Point>,
-        to: impl Into<Point>,
-        weight: f32,
-    ) -> Result<u64, Error> {
-        let (c, to) = (control.into(), to.into());
-        self.build(
-            |path| path.conic_need(c, to, weight),
-            |lent| lent.conic_to(c.x, c.y, to.x, to.y, weight),
-        )?;
-        Ok(self.counts[2])
-    }
-
-    /// A cubic curve.
-    ///
-    /// # Errors
-    ///
-    /// As [`move_to`](PathBuilder::move_to).
-    pub fn cubic_to(
-        &mut self,
-        control_1: impl Into<Point>,
-        control_2: impl Into<Point>,
-        to: impl Into<Point>,
-    ) -> Result<(), Error> {
-        let (a, b, to) = (control_1.into(), control_2.into(), to.into());
-        self.build(
-            |_| PLAIN,
-            |lent| lent.cubic_to(a.x, a.y, b.x, b.y, to.x, to.y),
-        )
-    }
-
-    /// Back to the contour's start. On an empty path it adds nothing.
-    ///
-    /// # Errors
-    ///
-    /// As [`move_to`](PathBuilder::move_to).
-    pub fn close(&mut self) -> Result<(), Error> {
-        self.build(|_| PLAIN, |lent| lent.close())
-    }
-
-    /// The outline of a shape, as a closed contour of its own, whole or not at all.
-    ///
-    /// # Errors
-    ///
-    /// As [`move_to`](PathBuilder::move_to).
-    pub fn add(&mut self, shape: &RoundSuperellipse) -> Result<(), Error> {
-        self.build(|_| shape.outline_need(), |lent| lent.add(shape.as_floats()))
-    }
-
-    /// How much [`conic_to`](PathBuilder::conic_to) would add here.
-    pub fn conic_need(&self, control: impl Into<Point>, to: impl Into<Point>, weight: f32) -> Need {
-        let (c, to) = (control.into(), to.into());
-        let mut need = [0; 2];
-        let conic = [c.x, c.y, to.x, to.y, weight];
-        raw::conic_need(&self.counts, &self.places, conic, &mut need);
-        Need::from_raw(need)
-    }
-
-    /// Empties the path; the memory is kept.
-    pub fn clear(&mut self) {
-        self.counts = PathRecord::EMPTY.counts();
-        self.places = PathRecord::EMPTY.places();
-    }
-
-    /// The record: how much is held, and where the pen is.
+    /// Its record.
+    #[must_use]
     pub const fn record(&self) -> PathRecord {
-        PathRecord::from_raw(&self.counts, &self.places)
+        self.0.record()
     }
 
-    /// How much room there is, held and free.
-    pub fn room(&self) -> Need {
-        let (verbs, points) = self.slices();
-        Need {
-            verbs: verbs.len(),
-            points: points.len() / 2,
-        }
+    /// Whether it holds no segments.
+    #[must_use]
+    pub const fn is_empty(&self) -> bool {
+        self.0.is_empty()
     }
 
-    /// The path, to be read.
-    pub fn path(&self) -> Path<'_> {
-        let (verbs, points) = self.slices();
-        Path {
-            counts: self.counts,
-            places: self.places,
-            verbs,
-            points,
-        }
+    /// The verbs, a byte each; see [`Path::new`].
+    #[must_use]
+    pub fn verbs(&self) -> &'a [u8] {
+        self.0.verbs()
     }
 
-    /// The segments; see [`Path::segments`].
-    pub fn segments(&self) -> Segments<'_> {
-        self.path().segments()
+    /// The floats of the points, x and y in turn.
+    #[must_use]
+    pub fn points(&self) -> &'a [f32] {
+        self.0.points()
+    }
+
+    /// Whether no coordinate is a NaN or infinite.
+    #[must_use]
+    pub fn is_finite(&self) -> bool {
+        self.segments().all(|segment| segment.is_finite())
+    }
+
+    /// Its segments, from the first on.
+    pub const fn segments(&self) -> CheckedSegments<'a> {
+        CheckedSegments(self.0.segments())
     }
 
     /// The box round all points; see [`Path::bounding_box`].
+    #[must_use]
+    pub fn bounding_box(&self) -> Option<Rect> {
+        // It was found good, so an error does not come.
+        self.0.bounding_box().ok().flatten()
+    }
+
+    /// The path as SVG path data; see [`Path::to_svg`].
     ///
     /// # Errors
     ///
-    /// As [`Path::bounding_box`].
-    pub fn bounding_box(&self) -> Result<Option<Rect>, Error> {
-        self.path().bounding_box()
-    }
-
-    fn slices(&self) -> (&[u8], &[f32]) {
-        match &self.buffers {
-            Buffers::Owned { verbs, points, .. } => (verbs, points),
-            Buffers::Lent { verbs, points } => (verbs, points),
-        }
-    }
-
-    /// Makes a call; where it lacks room and the memory grows, makes it again with what it needs.
-    fn build(
-        &mut self,
-        need: impl FnOnce(&Self) -> Need,
-        call: impl Fn(&mut raw::Lent<'_>) -> u32,
-    ) -> Result<(), Error> {
-        let answer = Error::check(call(&mut self.lend()), 0);
-        if answer != Err(Error::NoRoom) || !self.grow(need(self))? {
-            return answer;
-        }
-        Error::check(call(&mut self.lend()), 0)
-    }
-
-    fn lend(&mut self) -> raw::Lent<'_> {
-        let (verbs, points): (&mut [u8], &mut [f32]) = match &mut self.buffers {
-            Buffers::Owned { verbs, points, .. } => (verbs, points),
-            Buffers::Lent { verbs, points } => (verbs, points),
-        };
-        raw::Lent {
-            counts: &mut self.counts,
-            places: &mut self.places,
-            verbs,
-            points,
-        }
-    }
-
-    /// Makes room for this much more, and at least twice what there was; answers whether this
-    /// memory grows.
-    fn grow(&mut self, need: Need) -> Result<bool, Error> {
-        let held = self.record();
-        match &mut self.buffers {
-            Buffers::Owned {
-                verbs,
-                points,
-                grow: true,
-            } => {
-                let most_verbs = held.verbs.saturating_add(need.verbs);
-                let most_points = held.points.saturating_add(need.points);
-                let twice = verbs.len().saturating_mul(2);
-                extend(verbs, most_verbs.max(twice))?;
-                let twice = points.len().saturating_mul(2);
-                extend(points, most_points.saturating_mul(2).max(twice))?;
-                Ok(true)
+    /// [`Error::NotFinite`] or [`Error::NoRoom`].
+    pub fn to_svg(&self) -> Result<String, Error> {
+        let mut data = Text::default();
+        for (verb, segment) in self.segments().enumerate() {
+            if !segment.is_finite() {
+                return Err(Error::NotFinite { verb });
             }
-            _ => Ok(false),
+            let opened = verb > 0 || matches!(segment, Segment::Move(_));
+            let opening = if opened { "" } else { "M0 0" };
+            write!(data, "{opening}{segment}").map_err(|_| Error::NoRoom)?;
         }
+        Ok(data.0)
     }
 }
 
-/// No call needs more but a conic and an outline: a move and a cubic.
-const PLAIN: Need = Need {
-    verbs: 2,
-    points: 4,
-};
-
-impl Default for PathBuilder<'_> {
-    fn default() -> Self {
-        PathBuilder::new()
-    }
-}
-
-impl fmt::Debug for PathBuilder<'_> {
+impl fmt::Debug for CheckedPath<'_> {
     fn fmt(&self, f: &mut fmt::Formatter<'_>) -> fmt::Result {
-        f.debug_struct("PathBuilder")
+        f.debug_struct("CheckedPath")
             .field("record", &self.record())
-            .field("room", &self.room())
             .finish_non_exhaustive()
     }
 }
+
+impl<'a> From<CheckedPath<'a>> for Path<'a> {
+    fn from(path: CheckedPath<'a>) -> Path<'a> {
+        path.0
+    }
+}
+
+impl<'a> TryFrom<Path<'a>> for CheckedPath<'a> {
+    type Error = Error;
+
+    fn try_from(path: Path<'a>) -> Result<CheckedPath<'a>, Error> {
+        path.check()
+    }
+}
+
+impl<'a> IntoIterator for CheckedPath<'a> {
+    type Item = Segment;
+    type IntoIter = CheckedSegments<'a>;
+
+    fn into_iter(self) -> CheckedSegments<'a> {
+        self.segments()
+    }
+}
+
+/// The segments of a checked path.
+#[derive(Clone, Debug)]
+#[must_use]
+pub struct CheckedSegments<'a>(Segments<'a>);
+
+impl Iterator for CheckedSegments<'_> {
+    type Item = Segment;
+
+    fn next(&mut self) -> Option<Segment> {
+        // The path was found good, so an error does not come.
+        self.0.next()?.ok()
+    }
+
+    fn size_hint(&self) -> (usize, Option<usize>) {
+        (self.0.left(), Some(self.0.left()))
+    }
+}
+
+impl ExactSizeIterator for CheckedSegments<'_> {}
+
+impl FusedIterator for CheckedSegments<'_> {}

@@ -11,6 +11,10 @@
 /// The most touches that a panel file holds.
 pub const RESULTS: usize = 5461;
 
+/// The kinds of a panel file's records.
+pub const BUTTON: u64 = 1;
+pub const TOUCH: u64 = 2;
+
 /// What stands for a touch that goes nowhere.
 pub const NOWHERE: u32 = u32::MAX;
 
@@ -19,6 +23,7 @@ pub type Shape = [f32; 89];
 pub type Counts = [u64; 3];
 pub type Places = [f32; 4];
 pub type Need = [u64; 2];
+pub type Text = [u8; 64];
 
 // Functions of numbers alone, and of two places that are different because both are `&mut`: nothing
 // to break.
@@ -106,6 +111,15 @@ unsafe extern "C" {
         floats: &mut [f32; 12],
         len: usize,
     ) -> u32;
+    fn shackletongue_put_record(
+        file: *mut u8,
+        len: usize,
+        place: &mut [u64; 2],
+        len: usize,
+        floats: &[f32; 12],
+        len: usize,
+    ) -> u32;
+    fn shackletongue_refusal_text(number: u32, text: &mut Text, len: usize) -> u32;
     fn shackletongue_touch(
         file: *const u8,
         len: usize,
@@ -309,6 +323,25 @@ pub fn record(file: &[u8], place: &mut [u64; 2], floats: &mut [f32; 12]) -> u32 
             floats.len(),
         )
     }
+}
+
+pub fn put_record(file: &mut [u8], place: &mut [u64; 2], floats: &[f32; 12]) -> u32 {
+    // SAFETY: a slice and arrays with their lengths.
+    unsafe {
+        shackletongue_put_record(
+            file.as_mut_ptr(),
+            file.len(),
+            place,
+            place.len(),
+            floats,
+            floats.len(),
+        )
+    }
+}
+
+pub fn refusal_text(number: u32, text: &mut Text) -> u32 {
+    // SAFETY: an array with its length; C's char is a byte.
+    unsafe { shackletongue_refusal_text(number, text, text.len()) }
 }
 
 pub fn touch(file: &[u8], x: f32, y: f32, place: &mut [u64; 1]) -> u32 {

@@ -1,6 +1,6 @@
 use std::fmt;
 
-use crate::{raw, Error, Need, Point, Rect};
+use crate::{raw, Error, Need, PathBuilder, Point, Rect};
 
 /// The radii of a shape's corners, each in x and in y.
 #[derive(Clone, Copy, Debug, Default, PartialEq)]
@@ -17,6 +17,7 @@ pub struct CornerRadii {
 
 impl CornerRadii {
     /// The same radius in x and y at every corner.
+    #[must_use]
     pub const fn uniform(radius: f32) -> CornerRadii {
         let corner = Point::new(radius, radius);
         CornerRadii {
@@ -30,6 +31,8 @@ impl CornerRadii {
 
 /// A rounded superellipse ("squircle"), solved once: it is asked and drawn as often as is liked.
 ///
+/// Two are equal if they were made of equal bounds and radii.
+///
 /// ```
 /// use shackletongue::{CornerRadii, Error, Point, Rect, RoundSuperellipse};
 ///
@@ -38,12 +41,13 @@ impl CornerRadii {
 /// assert!(shape.contains(Point::new(5.0, 5.0)));
 /// assert!(!shape.contains(Point::new(0.1, 0.1)));
 /// assert!(shape.is_consistent());
+/// assert!(shape.to_path()?.to_svg()?.starts_with("M5 0Q"));
 ///
 /// let refused = RoundSuperellipse::new(bounds, CornerRadii::uniform(-1.0));
 /// assert_eq!(refused, Err(Error::NegativeRadius));
 /// # Ok::<(), Error>(())
 /// ```
-#[derive(Clone, Copy, PartialEq)]
+#[derive(Clone, Copy)]
 pub struct RoundSuperellipse {
     sizes: raw::Sizes,
     shape: raw::Shape,
@@ -64,16 +68,19 @@ impl RoundSuperellipse {
     }
 
     /// The bounds that it was made of.
+    #[must_use]
     pub const fn bounds(&self) -> Rect {
         bounds_of(&self.sizes)
     }
 
     /// The radii that it was made of.
+    #[must_use]
     pub const fn radii(&self) -> CornerRadii {
         radii_of(&self.sizes)
     }
 
     /// Whether the touch area contains the point. A NaN is judged by IEEE comparison.
+    #[must_use]
     pub fn contains(&self, point: impl Into<Point>) -> bool {
         let point = point.into();
         raw::contains(&self.shape, point.x, point.y) == 1
@@ -82,23 +89,46 @@ impl RoundSuperellipse {
     /// Whether outline and touch area are consistent: no corner looks the wrong way, and every point
     /// of the outline is finite. Ask before you cut brass: some shapes with a zero radius beside a
     /// nonzero one are drawn right but touched wrong.
+    #[must_use]
     pub fn is_consistent(&self) -> bool {
         raw::is_consistent(&self.sizes, &self.shape) == 1
     }
 
     /// How many verbs and points [`PathBuilder::add`](crate::PathBuilder::add) adds: at most 1,035
     /// and 2,074.
+    #[must_use]
     pub fn outline_need(&self) -> Need {
         let mut need = [0; 2];
         raw::outline_need(&self.shape, &mut need);
         Need::from_raw(need)
     }
 
+    /// Its outline as a path of its own.
+    ///
+    /// # Errors
+    ///
+    /// [`Error::NoRoom`] where there is no memory for it.
+    pub fn to_path(&self) -> Result<PathBuilder<'static>, Error> {
+        let mut path = PathBuilder::new();
+        path.add(self)?;
+        Ok(path)
+    }
+
     /// The solved shape as the library keeps it; include/shackletongue.h has the layout.
+    #[must_use]
     pub const fn as_floats(&self) -> &[f32; 89] {
         &self.shape
     }
 }
+
+impl PartialEq for RoundSuperellipse {
+    fn eq(&self, other: &RoundSuperellipse) -> bool {
+        // They are finite, and the solved shape, which may hold NaNs, follows from them.
+        self.sizes == other.sizes
+    }
+}
+
+impl Eq for RoundSuperellipse {}
 
 impl fmt::Debug for RoundSuperellipse {
     fn fmt(&self, f: &mut fmt::Formatter<'_>) -> fmt::Result {
@@ -126,6 +156,10 @@ impl Button {
         }
     }
 
+    pub(crate) const fn sizes(&self) -> raw::Sizes {
+        sizes_of(self.bounds, self.radii)
+    }
+
     /// Its shape.
     ///
     /// # Errors
@@ -133,6 +167,31 @@ impl Button {
     /// As [`RoundSuperellipse::new`].
     pub fn shape(&self) -> Result<RoundSuperellipse, Error> {
         RoundSuperellipse::new(self.bounds, self.radii)
+    }
+
+    /// Its record, as it stands in a panel file.
+    ///
+    /// ```
+    /// use shackletongue::{Button, Error, Panel, Record};
+    ///
+    /// let button = Button::default();
+    /// let file = button.to_bytes();
+    /// assert_eq!(file[..4], [48, 0, 1, 0]);
+    /// assert_eq!(Panel::new(&file)?.records().next(), Some(Record::Button(button)));
+    /// # Ok::<(), Error>(())
+    /// ```
+    #[must_use]
+    pub fn to_bytes(&self) -> [u8; 52] {
+        let mut record = [0; 52];
+        // A button fills them, so this is not refused.
+        raw::put_record(&mut record, &mut [0, raw::BUTTON], &self.sizes());
+        record
+    }
+}
+
+impl From<RoundSuperellipse> for Button {
+    fn from(shape: RoundSuperellipse) -> Button {
+        Button::from_sizes(&shape.sizes)
     }
 }
 

@@ -6,9 +6,13 @@
     clippy::arithmetic_side_effects
 )]
 
+mod stored;
+
+use stored::with_one_nan;
+
 use shackletongue::{
-    Button, CornerRadii, Error, Need, Panel, Path, PathBuilder, PathRecord, Point, Rect,
-    RoundSuperellipse, Segment,
+    Button, CornerRadii, Error, Need, Panel, PanelBuilder, Path, PathBuilder, PathRecord, Point,
+    Rect, RoundSuperellipse,
 };
 
 /// Floats that break things.
@@ -78,9 +82,13 @@ impl Random {
     }
 }
 
-/// A record as text: a NaN is equal to itself.
-fn shown(record: PathRecord) -> String {
-    format!("{record:?}")
+/// As text: a NaN is equal to itself.
+fn shown(value: impl std::fmt::Debug) -> String {
+    format!("{value:?}")
+}
+
+fn bits(floats: &[f32]) -> Vec<u32> {
+    floats.iter().map(|x| x.to_bits()).collect()
 }
 
 fn uniform(max: f32, radius: f32) -> Result<RoundSuperellipse, Error> {
@@ -93,8 +101,8 @@ fn uniform(max: f32, radius: f32) -> Result<RoundSuperellipse, Error> {
 #[test]
 fn shapes_are_refused_by_number() {
     for nasty in [f32::NAN, f32::INFINITY, f32::MAX, 16384.002] {
-        assert_eq!(uniform(nasty, 1.0).unwrap_err().number(), 2);
-        assert_eq!(uniform(10.0, nasty).unwrap_err().number(), 2);
+        assert_eq!(uniform(nasty, 1.0), Err(Error::BeyondLimit));
+        assert_eq!(uniform(10.0, nasty), Err(Error::BeyondLimit));
     }
     assert_eq!(uniform(10.0, -1e-45), Err(Error::NegativeRadius));
     assert_eq!(uniform(-1.0, 1.0), Err(Error::Inverted));
@@ -119,7 +127,7 @@ fn any_shape_is_asked_and_drawn() {
             (shape.bounds(), shape.radii()),
             (button.bounds, button.radii)
         );
-        shape.contains(random.point());
+        let _ = shape.contains(random.point());
         let need = shape.outline_need();
         assert!((11..=1035).contains(&need.verbs) && need.points <= 2074);
         let mut path = PathBuilder::fixed(need).unwrap();
@@ -129,8 +137,13 @@ fn any_shape_is_asked_and_drawn() {
         assert_eq!(path.segments().count(), need.verbs);
         assert_eq!(path.add(&shape), Err(Error::NoRoom));
         assert_eq!(shown(path.record()), shown(record));
-        let finite = path.path().points().iter().all(|x| x.is_finite());
+        assert_eq!(path.segments().len(), need.verbs);
+        let finite = path.path().is_finite();
         assert!(finite || !shape.is_consistent());
+        assert_eq!(finite, path.to_svg().is_ok());
+        // a shape that draws a NaN equals itself all the same
+        assert_eq!(shape, button.shape().unwrap());
+        assert_eq!(path.path(), shape.to_path().unwrap().path());
     }
     assert!(made > 2_000, "{made}");
 }
@@ -168,13 +181,73 @@ fn a_growing_path_takes_every_call() {
         any_call(&mut random, &mut path).unwrap();
     }
     let record = path.record();
-    let segments: Vec<Segment> = path.segments().collect::<Result<_, _>>().unwrap();
+    let mut segments = path.segments();
     assert_eq!(segments.len(), record.verbs);
+    assert_eq!(segments.by_ref().count(), record.verbs);
+    assert_eq!((segments.len(), segments.next()), (0, None));
+    let (unchecked, whole) = (Path::from(path.path()), path.path());
+    assert!(unchecked.segments().all(|segment| segment.is_ok()));
+    assert_eq!(unchecked.check(), Ok(whole));
     assert_eq!(path.path().verbs().len(), record.verbs);
     assert_eq!(path.path().points().len(), 2 * record.points);
     path.clear();
     assert_eq!(path.segments().next(), None);
-    assert_eq!(path.bounding_box(), Ok(None));
+    assert_eq!(path.bounding_box(), None);
+    assert!(path.is_empty() && path.path().is_empty());
+}
+
+/// What is printed can be read as SVG path data: letters, each with as many numbers as it takes.
+fn is_svg(data: &str) -> bool {
+    let mut commands: Vec<(char, String)> = Vec::new();
+    for c in data.chars() {
+        if c.is_ascii_uppercase() {
+            commands.push((c, String::new()));
+        } else if let Some((_, numbers)) = commands.last_mut() {
+            numbers.push(c);
+        } else {
+            return false;
+        }
+    }
+    commands.first().is_none_or(|(letter, _)| *letter == 'M')
+        && commands.iter().all(|(letter, numbers)| {
+            let words: Vec<_> = numbers.split_terminator(' ').collect();
+            let count = match letter {
+                'M' | 'L' => 2,
+                'Q' => 4,
+                'C' => 6,
+                'Z' => 0,
+                _ => return false,
+            };
+            let digits = |c: char| c.is_ascii_digit() || c == '.' || c == '-';
+            let number = |w: &&str| w.chars().all(digits) && w.parse::<f64>().is_ok();
+            words.len() == count && words.iter().all(number)
+        })
+}
+
+#[test]
+fn whatever_is_printed_is_svg() {
+    let mut random = Random(23);
+    assert!(!is_svg("L1 2") && !is_svg("M1 inf") && !is_svg("M1 2Q1 2 3") && is_svg("M1 -.5Z"));
+    for _ in 0..2_000 {
+        let mut path = PathBuilder::new();
+        for _ in 0..random.below(9) {
+            any_call(&mut random, &mut path).unwrap();
+        }
+        let printed: String = path.segments().map(|segment| segment.to_string()).collect();
+        assert!(is_svg(&printed), "{printed}");
+        match path.to_svg() {
+            Ok(data) => assert_eq!(data, printed),
+            Err(Error::NotFinite { verb }) => {
+                let mut segments = path.segments();
+                assert!(segments
+                    .by_ref()
+                    .take(verb)
+                    .all(|segment| segment.is_finite()));
+                assert!(!segments.next().unwrap().is_finite());
+            }
+            Err(error) => assert_eq!(error, Error::NoRoom),
+        }
+    }
 }
 
 #[test]
@@ -185,12 +258,22 @@ fn lent_and_fixed_paths_refuse_alike_and_change_nothing() {
         let (mut verbs, mut points) = (vec![9; verbs_room], vec![0.5; 2 * points_room]);
         let mut lent = PathBuilder::lent(&mut verbs, &mut points);
         let mut fixed = PathBuilder::fixed(lent.room()).unwrap();
+        assert_eq!(fixed.room(), lent.room());
         let mut again = Random(random.next());
         for _ in 0..20 {
             let seed = again.next();
             let before = lent.record();
+            let before_call = lent.clone();
             let answer = any_call(&mut Random(seed), &mut lent);
+            let mut twin = if random.below(2) == 0 {
+                before_call
+            } else {
+                fixed.clone()
+            };
             assert_eq!(answer, any_call(&mut Random(seed), &mut fixed));
+            assert_eq!(answer, any_call(&mut Random(seed), &mut twin));
+            assert_eq!(lent.path(), fixed.path());
+            assert_eq!(lent.path(), twin.path());
             assert!(matches!(answer, Ok(()) | Err(Error::NoRoom)));
             if answer.is_err() {
                 assert_eq!(shown(before), shown(lent.record()));
@@ -209,6 +292,9 @@ fn no_memory_is_no_room() {
         assert_eq!(room(huge, 0), Some(Error::NoRoom));
         assert_eq!(room(0, huge), Some(Error::NoRoom));
     }
+    let mut none = PathBuilder::fixed(Need::default()).unwrap();
+    assert_eq!(none.move_to((1.0, 2.0)), Err(Error::NoRoom));
+    assert_eq!((none.close(), none.is_empty()), (Ok(()), true));
     let mut empty = PathBuilder::lent(&mut [], &mut []);
     assert_eq!(empty.move_to((1.0, 2.0)), Err(Error::NoRoom));
     assert_eq!(empty.close(), Ok(()));
@@ -261,6 +347,7 @@ fn any_record_over_any_buffers_is_read() {
             pen: random.point(),
         };
         let path = Path::new(record, &verbs, &points);
+        assert_eq!(path, path);
         let bad = record.verbs > 8 || record.points > 7 || record.verbs == 0 && record.points > 0;
         let items: Vec<_> = path.segments().collect();
         let (_, most) = path.segments().size_hint();
@@ -268,6 +355,8 @@ fn any_record_over_any_buffers_is_read() {
         if bad {
             assert_eq!(items, [Err(Error::BadRecord)]);
             assert_eq!(path.bounding_box(), Err(Error::BadRecord));
+            assert_eq!(path.check(), Err(Error::BadRecord));
+            assert_eq!(path.to_svg(), Err(Error::BadRecord));
         } else if let Some(Err(error)) = items.last() {
             assert_eq!(
                 *error,
@@ -276,13 +365,37 @@ fn any_record_over_any_buffers_is_read() {
                 }
             );
             assert_eq!(path.bounding_box(), Err(*error));
+            assert_eq!(path.check(), Err(*error));
+            assert_eq!(path.to_svg(), Err(*error));
         } else {
             assert_eq!(items.len(), record.verbs);
-            assert!(path.bounding_box().is_ok());
+            let checked = path.check().unwrap();
+            assert_eq!(path.bounding_box(), Ok(checked.bounding_box()));
+            let segments: Vec<_> = checked
+                .segments()
+                .map(|segment| shown(Ok::<_, Error>(segment)))
+                .collect();
+            let items: Vec<_> = items.iter().map(shown).collect();
+            assert_eq!(segments, items);
+            let svg = checked.to_svg();
+            assert_eq!(svg.is_ok(), checked.is_finite());
+            assert!(svg.is_ok_and(|data| is_svg(&data)) || !checked.is_finite());
         }
-        let mut path = PathBuilder::resume(record, &mut verbs, &mut points);
-        let answer = any_call(&mut random, &mut path);
-        assert_eq!(bad, answer == Err(Error::BadRecord));
+        // a builder goes on only with a path that can be read
+        let good = path.check().map(|_| ());
+        let (held_verbs, held_points) = (verbs.clone(), bits(&points));
+        match PathBuilder::resume(record, &mut verbs, &mut points) {
+            Err(error) => {
+                assert_eq!(good, Err(error));
+                assert_eq!((verbs, bits(&points)), (held_verbs, held_points));
+            }
+            Ok(mut path) => {
+                assert_eq!(good, Ok(()));
+                let answer = any_call(&mut random, &mut path);
+                assert!(matches!(answer, Ok(()) | Err(Error::NoRoom)));
+                assert_eq!(path.segments().count(), path.record().verbs);
+            }
+        }
     }
 }
 
@@ -326,7 +439,7 @@ fn files_of_any_bytes_are_answered() {
         let Ok(panel) = Panel::new(&file) else {
             continue;
         };
-        let all = panel.touch_all();
+        let all = panel.touch_all().unwrap();
         assert_eq!(all.len(), panel.touches().count());
         for (point, found) in panel.touches().zip(all) {
             assert_eq!(panel.touch(point), found);
@@ -335,7 +448,7 @@ fn files_of_any_bytes_are_answered() {
                 .position(|b| b.shape().is_ok_and(|s| s.contains(point)));
             assert_eq!(found, first);
         }
-        panel.touch(random.point());
+        let _ = panel.touch(random.point());
     }
 }
 
@@ -343,8 +456,66 @@ fn files_of_any_bytes_are_answered() {
 fn the_largest_file_has_5461_touches() {
     let file = touch(f32::NAN, f32::INFINITY).repeat(5461);
     let panel = Panel::new(&file).unwrap();
-    assert_eq!(panel.touch_all(), vec![None; 5461]);
+    assert_eq!(panel.touch_all(), Ok(vec![None; 5461]));
     assert_eq!(panel.records().count(), 5461);
+}
+
+#[test]
+fn a_panel_ends_at_65536_bytes() {
+    let mut random = Random(29);
+    let mut panel = PanelBuilder::new();
+    for _ in 0..5461 {
+        panel.add_touch(random.point()).unwrap();
+    }
+    // 4 bytes are free: room for neither
+    let full = panel.clone();
+    assert_eq!(panel.add_touch((1.0, 2.0)), Err(Error::NoRoom));
+    assert_eq!(panel.add_button(random.button()), Err(Error::NoRoom));
+    assert_eq!(panel, full);
+    assert_eq!(panel.as_bytes().len(), 65_532);
+    assert_eq!(panel.panel().records().count(), 5461);
+
+    // as many buttons as there is room for, and a touch that ends on the last byte
+    let mut panel = PanelBuilder::new();
+    let mut count = 0;
+    while panel.add_button(random.button()).is_ok() {
+        count += 1;
+    }
+    assert_eq!((count, panel.as_bytes().len()), (1260, 65_520));
+    panel.add_touch(random.point()).unwrap();
+    assert_eq!(panel.add_touch(random.point()), Err(Error::NoRoom));
+    assert_eq!(panel.as_bytes().len(), 65_532);
+    assert!(Panel::new(panel.as_bytes()).is_ok());
+    assert_eq!(panel.panel().touch_all().unwrap().len(), 1);
+}
+
+#[test]
+fn any_records_are_written_as_they_are_read() {
+    let mut random = Random(31);
+    for _ in 0..2_000 {
+        let mut panel = PanelBuilder::new();
+        let mut file = Vec::new();
+        for _ in 0..random.below(6) {
+            if random.below(2) == 0 {
+                let (x, y) = (random.float(), random.float());
+                panel.add_touch((x, y)).unwrap();
+                file.extend(touch(x, y));
+            } else {
+                let button = random.button();
+                panel.add_button(button).unwrap();
+                let Button { bounds, radii: r } = button;
+                let corners = [r.top_left, r.top_right, r.bottom_left, r.bottom_right];
+                file.extend([48, 0, 1, 0]);
+                for p in [bounds.min, bounds.max].into_iter().chain(corners) {
+                    file.extend([p.x.to_le_bytes(), p.y.to_le_bytes()].concat());
+                }
+                let record = with_one_nan(&button.to_bytes());
+                assert!(with_one_nan(&file).ends_with(&record));
+            }
+        }
+        assert_eq!(with_one_nan(panel.as_bytes()), with_one_nan(&file));
+        assert_eq!(Panel::new(panel.as_bytes()), Ok(panel.panel()));
+    }
 }
 
 #[test]
@@ -359,11 +530,26 @@ fn errors_have_their_numbers() {
         Error::BrokenFile { offset: 52 },
     ];
     for (number, error) in (1..).zip(errors) {
-        assert_eq!(error.number(), number);
+        assert_eq!(error.number(), Some(number));
         let shown: &dyn std::error::Error = &error;
-        assert!(!shown.to_string().is_empty());
+        let shown = shown.to_string();
+        // what is wrong, and what to do
+        assert!(shown.starts_with(error.reason()) && shown.contains(": "));
     }
-    assert_eq!(shackletongue::version(), 1);
+    let error = Error::NotFinite { verb: 3 };
+    assert_eq!(error.number(), None);
+    assert!(error.to_string().contains("verb 3: "));
+    assert_eq!(
+        Error::Malformed { verb: 9 }
+            .to_string()
+            .matches("verb 9")
+            .count(),
+        1
+    );
+    assert!(Error::BrokenFile { offset: 52 }
+        .to_string()
+        .contains("at offset 52: "));
+    assert_eq!(shackletongue::version(), 2);
 }
 
 #[test]
@@ -375,11 +561,14 @@ fn every_type_may_change_threads_and_is_shown() {
     let panel = Panel::new(&file).unwrap();
     shown(panel);
     shown(panel.records());
+    shown(PanelBuilder::from(panel));
     shown(uniform(10.0, 2.0).unwrap());
     let mut path = PathBuilder::new();
     path.add(&uniform(10.0, 2.0).unwrap()).unwrap();
     shown(path.path());
     shown(path.segments());
+    shown(Path::from(path.path()));
+    shown(Path::from(path.path()).segments());
     shown(path);
     shown(Error::NoRoom);
 }

@@ -1,4 +1,4 @@
-//! Reads a panel file on standard input and writes the report on it to standard output
+//! Writes the report on the panel file that the command line names, or on standard input
 //! (docs/SPECIFICATION.md, "The report"). Only a file that was read to its end is reported on.
 
 #![tactic(auto)]
@@ -6,8 +6,8 @@
 ghost use Rattle.report.specs.Text.{text_of};
 ghost use Rattle.report.specs.Report.{report_of};
 
-use input::Report;
-use std::io;
+use panel_program::Report;
+use std::process::ExitCode;
 
 struct Fascia;
 
@@ -19,6 +19,10 @@ impl Report for Fascia {
     }
 }
 
-fn main(rt: HostRuntime) -> io::Result<()> {
-    input::report_on::<_, Fascia>(&rt, &mut rt.stdin(), "fascia")
+const ABOUT: &str =
+    "Says of each button of a panel file how many verbs and points its outline has, or why its shape\n\
+    is refused, and of each touch to which button it goes.";
+
+fn main(rt: HostRuntime) -> ExitCode {
+    panel_program::start::<_, Fascia>(&rt, "fascia", ABOUT)
 }

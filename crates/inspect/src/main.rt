@@ -1,13 +1,14 @@
-//! Reads a panel file on standard input and says of each button whether its outline and its touch area are consistent
-//! (docs/SPECIFICATION.md, "Consistency"). Only a file that was read to its end is reported on.
+//! Says of each button of the panel file that the command line names, or of standard input, whether its outline and its
+//! touch area are consistent (docs/SPECIFICATION.md, "Consistency"). Only a file that was read to its end is reported
+//! on.
 
 #![tactic(auto)]
 
 ghost use Rattle.consistency_report.specs.Text.{text_of};
 ghost use Rattle.consistency_report.specs.Findings.{inspection_of};
 
-use input::Report;
-use std::io;
+use panel_program::Report;
+use std::process::ExitCode;
 
 struct Inspect;
 
@@ -19,6 +20,10 @@ impl Report for Inspect {
     }
 }
 
-fn main(rt: HostRuntime) -> io::Result<()> {
-    input::report_on::<_, Inspect>(&rt, &mut rt.stdin(), "inspect")
+const ABOUT: &str =
+    "Says of each button of a panel file whether its outline and its touch area are consistent, or why\n\
+    its shape is refused. Ask before you cut.";
+
+fn main(rt: HostRuntime) -> ExitCode {
+    panel_program::start::<_, Inspect>(&rt, "inspect", ABOUT)
 }

@@ -1,18 +1,32 @@
-//! Draws a panel file as an SVG: outlines filled, touches marked by the button that they hit,
-//! refused shapes and those that are not consistent listed.
-//!
-//!   preview FILE > PICTURE
+//! Draws a panel file as an SVG to be looked at: outlines filled, touches marked by the button that
+//! they hit, refused shapes and those that are not consistent listed.
 //!
 //! The outlines stand in the picture in the file's own units and with every digit.
 
+mod program;
+
 use std::collections::BTreeMap;
 use std::fmt::Write as _;
-use std::io::Write as _;
-use std::path::Path;
 use std::process::ExitCode;
-use std::{env, fs, io};
 
-use shackletongue::{Button, Error, Panel, PathBuilder, Point, Rect};
+use program::{Outcome, Program, DONE, FAILED};
+use shackletongue::{Button, Error, Panel, Point, Rect};
+
+const HELP: &str = "\
+preview: a panel's buttons and touches as an SVG to be looked at
+
+usage: preview [FILE] > PICTURE
+
+  FILE           the panel file; standard input where there is none, or -
+  -h, --help     this text
+  -V, --version  the versions of program and library
+
+Each touch has the colour of the button that it hits. Refused shapes are listed; those
+whose outline and touch area part company are hatched in red.
+
+exit status: 0 the panel is drawn; 1 the file is refused; 2 wrong usage; 3 the file
+cannot be read, or the picture cannot be written
+";
 
 /// The larger side of the panel in the picture, and the space round it.
 const PANEL_SIDE: f64 = 760.0;
@@ -74,7 +88,7 @@ impl Scene {
             title,
             drawings,
             refused,
-            touches: panel.touches().zip(panel.touch_all()).collect(),
+            touches: panel.touches().zip(panel.touch_all()?).collect(),
         })
     }
 
@@ -84,7 +98,7 @@ impl Scene {
             .drawings
             .iter()
             .flat_map(|d| [d.bounds.min, d.bounds.max]);
-        let touches = self.touches.iter().map(|(p, _)| *p).filter(on_page);
+        let touches = self.touches.iter().map(|(p, _)| *p).filter(|p| on_page(*p));
         let none = [f64::MAX, f64::MAX, f64::MIN, f64::MIN];
         let [a, b, c, d] = corners.chain(touches).fold(none, |[a, b, c, d], p| {
             let (x, y) = (f64::from(p.x), f64::from(p.y));
@@ -98,22 +112,19 @@ impl Scene {
     }
 }
 
-fn on_page(p: &Point) -> bool {
+fn on_page(p: Point) -> bool {
     p.x.abs() <= FARTHEST && p.y.abs() <= FARTHEST
 }
 
 fn draw(index: usize, button: Button) -> Result<Drawing, Error> {
     let shape = button.shape()?;
-    let mut path = PathBuilder::new();
-    path.add(&shape)?;
     let bounds = shape.bounds();
-    let data = if path.path().points().iter().all(|x| x.is_finite()) {
-        path.segments()
-            .map(|segment| segment.map(|s| s.to_string()))
-            .collect::<Result<String, Error>>()?
-    } else {
-        let Rect { min, max } = bounds;
-        format!("M{} {}H{}V{}H{}Z", min.x, min.y, max.x, max.y, min.x)
+    let data = match shape.to_path()?.to_svg() {
+        Err(Error::NotFinite { .. }) => {
+            let Rect { min, max } = bounds;
+            format!("M{} {}H{}V{}H{}Z", min.x, min.y, max.x, max.y, min.x)
+        }
+        data => data?,
     };
     Ok(Drawing {
         index,
@@ -179,6 +190,10 @@ fn named(target: Option<usize>) -> String {
     target.map_or("none".to_string(), |index| index.to_string())
 }
 
+fn number_of(error: Error) -> u32 {
+    error.number().unwrap_or_default()
+}
+
 fn escaped(text: &str) -> String {
     text.replace('&', "&amp;")
         .replace('<', "&lt;")
@@ -231,7 +246,7 @@ fn outlines(svg: &mut String, scene: &Scene, page: &Page) -> std::fmt::Result {
 fn touches(svg: &mut String, scene: &Scene, page: &Page) -> std::fmt::Result {
     let crowded = scene.touches.len() > CROWD;
     for (number, (p, target)) in scene.touches.iter().enumerate() {
-        if !on_page(p) {
+        if !on_page(*p) {
             continue;
         }
         let (x, y) = page.place(*p);
@@ -332,14 +347,14 @@ fn legend(scene: &Scene, page: &Page) -> Result<Legend, std::fmt::Error> {
     });
     legend.list("Touches", touches)?;
     let refused = scene.refused.iter().map(|(index, error)| {
-        let text = format!("button {index}: refused {}", error.number());
+        let text = format!("button {index}: refused {}", number_of(*error));
         (WARNING.to_string(), text)
     });
     legend.list("Refused shapes", refused)?;
     let reasons: BTreeMap<_, _> = scene
         .refused
         .iter()
-        .map(|(_, error)| (error.number(), error))
+        .map(|(_, error)| (number_of(*error), error.reason()))
         .collect();
     for (number, reason) in reasons {
         legend.line("entry", NOWHERE, &format!("{number}: {reason}"))?;
@@ -384,32 +399,31 @@ fn picture(scene: &Scene) -> Result<String, std::fmt::Error> {
     Ok(svg)
 }
 
-/// The picture of a file, or why there is none.
-fn preview(name: &Path) -> Result<String, String> {
-    let file = fs::read(name).map_err(|error| format!("{}: {error}", name.display()))?;
-    let refused = |error: Error| format!("refused {}: {error}", error.number());
-    let panel = Panel::new(&file).map_err(refused)?;
-    let title = name.file_name().unwrap_or_default().to_string_lossy();
-    let scene = Scene::new(title.into_owned(), panel).map_err(refused)?;
-    picture(&scene).map_err(|error| error.to_string())
+/// The picture of a panel; where there is no memory for it, a line that says so.
+fn preview(panel: Panel<'_>, title: String) -> Outcome {
+    let drawn = Scene::new(title, panel).and_then(|scene| {
+        // Only a text that cannot grow refuses to be written to.
+        picture(&scene).map_err(|_| Error::NoRoom)
+    });
+    match drawn {
+        Ok(picture) => Outcome {
+            picture: Some(picture),
+            lines: Vec::new(),
+            status: DONE,
+        },
+        Err(error) => Outcome {
+            picture: None,
+            lines: vec![format!("preview: {error}")],
+            status: FAILED,
+        },
+    }
 }
 
 fn main() -> ExitCode {
-    let names: Vec<_> = env::args_os().skip(1).collect();
-    let [name] = names.as_slice() else {
-        eprintln!("usage: preview FILE > PICTURE");
-        return ExitCode::FAILURE;
+    let program = Program {
+        name: "preview",
+        help: HELP,
+        option: None,
     };
-    let written = preview(Path::new(name)).and_then(|svg| {
-        io::stdout()
-            .write_all(svg.as_bytes())
-            .map_err(|error| error.to_string())
-    });
-    match written {
-        Ok(()) => ExitCode::SUCCESS,
-        Err(message) => {
-            eprintln!("{message}");
-            ExitCode::FAILURE
-        }
-    }
+    program::run(&program, |panel, title, _| preview(panel, title))
 }

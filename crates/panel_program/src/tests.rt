@@ -2,7 +2,7 @@
 
 ghost use Rattle.std.specs.Prelude.{take};
 
-use super::{Report, RunError, run};
+use super::{Report, RunError, Verdict, run, status_of};
 use std::io;
 use std::io::{ErrorKind, Read};
 use std::test::Fail;
@@ -49,8 +49,24 @@ fn pieces_are_read_to_the_end(rt: HostRuntime) -> Result<(), Fail> {
         fails_after: None,
     };
     let mut output = Vec::new(rt.alloc());
-    assert!(rt; run::<_, _, Echo>(&mut input, &mut output).is_ok());
+    let result = run::<_, _, Echo>(rt.alloc(), &mut input, &mut output);
+    assert!(rt; matches!(result, Ok(Verdict::Refused)));
+    assert!(rt; status_of(&result) == 1);
     assert!(rt; output.as_slice() == b"a file in pieces".as_slice());
+    Ok(())
+}
+
+#[test]
+fn a_touch_is_a_good_file(rt: HostRuntime) -> Result<(), Fail> {
+    let mut input = Drip {
+        bytes: b"\x08\0\x02\0touching",
+        fails_after: None,
+    };
+    let mut output = Vec::new(rt.alloc());
+    let result = run::<_, _, Echo>(rt.alloc(), &mut input, &mut output);
+    assert!(rt; matches!(result, Ok(Verdict::Good)));
+    assert!(rt; status_of(&result) == 0);
+    assert!(rt; output.len() == 12);
     Ok(())
 }
 
@@ -61,8 +77,9 @@ fn nothing_is_written_of_an_input_that_fails(rt: HostRuntime) -> Result<(), Fail
         fails_after: Some(7),
     };
     let mut output = Vec::new(rt.alloc());
-    let result = run::<_, _, Echo>(&mut input, &mut output);
+    let result = run::<_, _, Echo>(rt.alloc(), &mut input, &mut output);
     assert!(rt; matches!(result, Err(RunError::Read(_))));
+    assert!(rt; status_of(&result) == 3);
     assert!(rt; output.is_empty());
     Ok(())
 }

@@ -1,7 +1,7 @@
 -- The report of the tests is the file.
 use Rattle.std.proofs.Common.{◌≡◌, ℕ, ◌≤◌, List, ◌++◌, length, take, drop, min, arith, ap, sym, ◌∙◌, length-take, take_all}
 use lib.Seq.{take-take}
-use Rattle.input.proofs.tests.EchoReport.put.Goals as goal
+use Rattle.panel_program.proofs.tests.EchoReport.put.Goals as goal
 
 cut : (n : ℕ) (l : List ℕ) → n ≡ min (length l) 65537 → take n l ≡ take 65537 l
 cut n l e =
