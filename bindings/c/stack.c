@@ -1,0 +1,214 @@
+/*
+ * Measures how much stack each function takes, and holds it to what the header says.
+ *
+ *   stack          prints a line for each function: the most bytes that it took, and the most that it may
+ *
+ * A call runs in a thread whose stack is filled with a pattern. What the call changed is what it took, from the place
+ * where it was called on.
+ */
+#define _POSIX_C_SOURCE 200809L
+#include <math.h>
+#include <pthread.h>
+#include <stdint.h>
+#include <stdio.h>
+#include <stdlib.h>
+#include <string.h>
+
+#include "shackletongue.h"
+
+#define PATTERN 0xa5
+#define STACK (1u << 20)
+
+static unsigned char *stack;
+
+/* ---- what the calls are lent: nothing of it lies on the measured stack */
+
+static uint64_t counts[3], need[2], cursor[3], place[2];
+static float places[4], shape[89], points[2 * 1000000], segment[6], rect[4], floats[12], sine, cosine;
+static uint8_t verbs[1000000], file[65536];
+static uint32_t results[SHACKLETONGUE_RESULTS_LEN];
+static char text[SHACKLETONGUE_TEXT_LEN];
+static size_t file_len;
+
+#define PATH counts, 3, places, 4, verbs, sizeof verbs, points, sizeof points / sizeof points[0]
+
+/* Shapes that take every way through the library: corners that are square and round, equal and not, with few segments
+ * and with many, refused ones too. */
+static const float shapes[][12] = {
+    {0, 0, 100, 60, 20, 20, 20, 20, 20, 20, 20, 20},
+    {0, 0, 100, 60, 1, 2, 3, 4, 5, 6, 7, 8},
+    {0, 0, 100, 60, 0, 0, 20, 20, 0, 5, 20, 20},
+    {0, 0, 10, 10, 0, 0, 0, 0, 0, 0, 0, 0},
+    {-16384, -16384, 16384, 16384, 0.001f, 0.002f, 16384, 16384, 1, 16384, 16384, 1},
+    {0, 0, 1000, 1, 50, 1, 50, 1, 50, 1, 50, 1},
+    {0, 0, 8000, 8000, 4000, 4000, 4000, 4000, 4000, 4000, 4000, 4000},
+    {0, 0, 10, 10, -1, 0, 0, 0, 0, 0, 0, 0},
+};
+#define SHAPES (sizeof shapes / sizeof shapes[0])
+static const float *sizes = shapes[0];
+static float weight, x, y;
+
+static void nothing(void) { }
+static void version(void) { shackletongue_version(); }
+static void refusal_text(void) { shackletongue_refusal_text(2, text, sizeof text); }
+static void make(void) { shackletongue_shape(sizes, 12, shape, 89); }
+static void contains(void) { shackletongue_contains(shape, 89, x, y); }
+static void is_consistent(void) { shackletongue_is_consistent(sizes, 12, shape, 89); }
+static void outline_need(void) { shackletongue_outline_need(shape, 89, need, 2); }
+static void move_to(void) { shackletongue_move_to(PATH, x, y); }
+static void line_to(void) { shackletongue_line_to(PATH, x, y); }
+static void quad_to(void) { shackletongue_quad_to(PATH, 1, 2, x, y); }
+static void conic_to(void) { shackletongue_conic_to(PATH, 10, 0, x, y, weight); }
+static void cubic_to(void) { shackletongue_cubic_to(PATH, 1, 2, 3, 4, x, y); }
+static void close_path(void) { shackletongue_close(PATH); }
+static void add_to(void) { shackletongue_add_to(shape, 89, PATH); }
+static void conic_need(void) { shackletongue_conic_need(counts, 3, places, 4, 10, 0, x, y, weight, need, 2); }
+static void read_one(void) { shackletongue_read(PATH, cursor, 3, segment, 6); }
+static void box(void) { shackletongue_box(PATH, rect, 4, place, 1); }
+static void record(void) { shackletongue_record(file, file_len, place, 2, floats, 12); }
+static void put_record(void) { shackletongue_put_record(file, sizeof file, place, 2, floats, 12); }
+static void touch(void) { shackletongue_touch(file, file_len, x, y, place, 1); }
+static void touch_all(void) { shackletongue_touch_all(file, file_len, results, SHACKLETONGUE_RESULTS_LEN, place, 1); }
+static void narrow(void) { sine = shackletongue_narrow(x); }
+static void root(void) { sine = shackletongue_sqrt(x); }
+static void power(void) { sine = shackletongue_pow(x, y); }
+static void sin_cos(void) { shackletongue_sin_cos(x, &sine, &cosine); }
+static void tangent(void) { sine = shackletongue_tan(x); }
+static void arctangent(void) { sine = shackletongue_atan2(y, x); }
+
+/* ---- one call, measured */
+
+static void (*volatile called)(void);
+
+static void *thread(void *unused)
+{
+    called();
+    return unused;
+}
+
+/* The bytes of a fresh stack that changed, as seen from its base. */
+static size_t changed(void (*call)(void))
+{
+    pthread_attr_t attributes;
+    pthread_t id;
+    size_t at = 0;
+    memset(stack, PATTERN, STACK);
+    called = call;
+    if (pthread_attr_init(&attributes) != 0 || pthread_attr_setstack(&attributes, stack, STACK) != 0
+        || pthread_create(&id, &attributes, thread, NULL) != 0 || pthread_join(id, NULL) != 0) {
+        fprintf(stderr, "stack: no thread was started\n");
+        exit(EXIT_FAILURE);
+    }
+    while (at < STACK && stack[at] == PATTERN)
+        at++;
+    return STACK - at;
+}
+
+static size_t worst;
+
+static void measure(void (*call)(void))
+{
+    static size_t base;
+    size_t taken;
+    if (base == 0)
+        base = changed(nothing);
+    taken = changed(call);
+    taken = taken > base ? taken - base : 0;
+    worst = taken > worst ? taken : worst;
+}
+
+/* Two points, one far out, and three weights: flat, usual, and halved as often as any. */
+static void measure_points(void (*call)(void))
+{
+    static const float xs[] = {5, 1e6f, NAN}, ys[] = {30, -1e6f, 2}, weights[] = {1, 0.7f, 1e6f};
+    for (int i = 0; i < 3; i++) {
+        x = xs[i];
+        y = ys[i];
+        weight = weights[i];
+        measure(call);
+        counts[0] = counts[1] = 0;
+        measure(call);
+    }
+}
+
+static void measure_shapes(void (*call)(void))
+{
+    for (size_t i = 0; i < SHAPES; i++) {
+        sizes = shapes[i];
+        make();
+        measure_points(call);
+    }
+}
+
+/* The longest file: buttons of every kind, then touches. */
+static void fill_file(void)
+{
+    place[0] = 0;
+    for (size_t i = 0; i < 3 * SHAPES; i++) {
+        place[1] = SHACKLETONGUE_BUTTON;
+        shackletongue_put_record(file, sizeof file, place, 2, shapes[i % SHAPES], 12);
+    }
+    do
+        place[1] = SHACKLETONGUE_TOUCH;
+    while (shackletongue_put_record(file, sizeof file, place, 2, shapes[place[0] % SHAPES], 12) == 0);
+    file_len = (size_t)place[0];
+}
+
+/* The most that a function may take, as the header says. */
+static const struct {
+    const char *name;
+    void (*call)(void);
+    size_t most;
+    void (*measure)(void (*)(void));
+} rows[] = {
+    {"version", version, 0, measure},
+    {"refusal_text", refusal_text, 0, measure},
+    {"shape", make, 0, measure_shapes},
+    {"contains", contains, 0, measure_shapes},
+    {"is_consistent", is_consistent, 0, measure_shapes},
+    {"outline_need", outline_need, 0, measure_shapes},
+    {"move_to", move_to, 0, measure_points},
+    {"line_to", line_to, 0, measure_points},
+    {"quad_to", quad_to, 0, measure_points},
+    {"conic_to", conic_to, 0, measure_points},
+    {"cubic_to", cubic_to, 0, measure_points},
+    {"close", close_path, 0, measure_points},
+    {"add_to", add_to, 0, measure_shapes},
+    {"conic_need", conic_need, 0, measure_points},
+    {"read", read_one, 0, measure_points},
+    {"box", box, 0, measure_points},
+    {"record", record, 0, measure},
+    {"put_record", put_record, 0, measure},
+    {"touch", touch, 0, measure_points},
+    {"touch_all", touch_all, 0, measure},
+    {"narrow", narrow, 0, measure_points},
+    {"sqrt", root, 0, measure_points},
+    {"pow", power, 0, measure_points},
+    {"sin_cos", sin_cos, 0, measure_points},
+    {"tan", tangent, 0, measure_points},
+    {"atan2", arctangent, 0, measure_points},
+};
+
+int main(void)
+{
+    int status = EXIT_SUCCESS;
+    void *memory;
+    if (posix_memalign(&memory, 4096, STACK) != 0) {
+        fprintf(stderr, "stack: no memory\n");
+        return EXIT_FAILURE;
+    }
+    stack = memory;
+    fill_file();
+    for (size_t i = 0; i < sizeof rows / sizeof rows[0]; i++) {
+        worst = 0;
+        place[0] = 0;
+        place[1] = SHACKLETONGUE_TOUCH;
+        rows[i].measure(rows[i].call);
+        printf("%s %zu of %zu\n", rows[i].name, worst, rows[i].most);
+        if (worst > rows[i].most) {
+            fprintf(stderr, "stack: %s takes more than the header says\n", rows[i].name);
+            status = EXIT_FAILURE;
+        }
+    }
+    return status;
+}
