@@ -6,7 +6,8 @@
 ghost use Rattle.std.specs.Prelude.{◌≡◌, length};
 ghost use Rattle.octant.specs.Octant.{point};
 ghost use Rattle.ffi_panel.specs.Asking.{place_left, slices_left, record_floats, record_of, record_in, put_of, place_of_touch, places_of_touches};
-ghost use Rattle.panel_file.specs.Panel.{kind_number, kind_of_record};
+ghost use Rattle.std.specs.Result.{result_ok};
+ghost use Rattle.panel_file.specs.Panel.{kind_of};
 
 use ffi_floats::{NONE, WRONG_LENGTH};
 use geometry::Point;
@@ -51,7 +52,7 @@ fn store_record(floats: &mut [f32], record: Record)
 
 // The kind of a number, as C writes it (include/shackletongue.h).
 fn kind_in(number: u64) -> Option<Kind>
-    ensures { result ≡ ok (kind_of number) }
+    ensures { result ≡ result_ok (kind_of number) }
 {
     Kind::try_from(u16::try_from(number).ok()?).ok()
 }
@@ -121,8 +122,8 @@ pub fn shackletongue_put_record(file: &mut [u8], place: &mut [u64], floats: &[f3
     };
     let record = load_record(kind, floats);
     match panel_file::put_record(file, place[0] as usize, record) {
-        Some(next) => {
-            place[0] = next as u64;
+        Some(end) => {
+            place[0] = end as u64;
             0
         }
         None => NO_ROOM,
