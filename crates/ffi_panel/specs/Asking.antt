@@ -51,18 +51,17 @@ record_in kind.Button fs =
     ButtonRecord (button_of (field 0) (field 2) (field 4) (field 6) (field 8) (field 10))
 record_in kind.Touch fs = TouchRecord (point_in fs 0)
 
--- the offset behind the record goes to the place
-unfoldable pub put_left : List ℕ → List ℕ → Record → SlicesLeft ℕ
-put_left file place r =
-    let at = get_or place 0 0 in
-    elim (next_of file at r) [
-      Some next ↦ slices_left 0 (set place 0 next) (file_of file at r)
-    | None ↦ slices_left no_room_number place file
-    ]
+-- the offset behind the record, where it had room, goes to the place
+unfoldable pub put_left : Option ℕ → List ℕ → List ℕ → SlicesLeft ℕ
+put_left (Some next) place file = slices_left 0 (set place 0 next) file
+put_left None place file = slices_left no_room_number place file
 
 -- a number that is no kind's is refused as in a file
 unfoldable pub put_kind : Result Kind UnknownKind → List ℕ → List ℕ → List Float → SlicesLeft ℕ
-put_kind (Ok kind) file place fs = put_left file place (record_in kind fs)
+put_kind (Ok kind) file place fs =
+    let at = get_or place 0 0 in
+    let r = record_in kind fs in
+    put_left (next_of file at r) place (file_of file at r)
 put_kind (Err e) file place fs = slices_left broken_number place file
 
 -- the record of the kind whose number stands in the place, at the offset that stands there

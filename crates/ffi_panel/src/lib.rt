@@ -54,7 +54,10 @@ fn store_record(floats: &mut [f32], record: Record)
 fn kind_in(number: u64) -> Option<Kind>
     ensures { result ≡ result_ok (kind_of number) }
 {
-    Kind::try_from(u16::try_from(number).ok()?).ok()
+    match u16::try_from(number) {
+        Ok(n) => Kind::try_from(n).ok(),
+        Err(_) => None,
+    }
 }
 
 #[tactic(auto, unfolding(crate::specs::Asking::record_in))]

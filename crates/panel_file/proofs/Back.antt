@@ -13,7 +13,7 @@ use lib.Seq.{length-take-le}
 use borrow.Author.Tests.{eq-eqb, le-leb, lt-leb, le-ltb, lt-ltb, ltb-false, leb-true, leb-false}
 use Rattle.std.specs.Int.{w16, w32, to_le_bytes, from_le_bytes}
 use Rattle.std.proofs.lemmas.Nat.{from_le_bytes-to_le_bytes_4}
-use Rattle.std.proofs.lemmas.List.{get_or-take, get_or-append-add, get_or-append_right, get_or_append_left}
+use Rattle.std.proofs.lemmas.List.{take_more, get_or-take, get_or-append-add, get_or-append_right, get_or_append_left}
 use Rattle.std.proofs.Common.{Option, Some, None, Result, Ok, Err}
 use Rattle.geometry.specs.declared.Point.{Point}
 use Rattle.panel_file.specs.Bytes.{u16_at, u32_at, f32_at, point_at, u16_bytes, f32_bytes, point_bytes, points_bytes}
@@ -24,6 +24,7 @@ use Rattle.panel_file.specs.declared.Record.{Record}
 use Rattle.panel_file.specs.declared.Record.TheVariants.{Button as ButtonRecord, Touch as TouchRecord}
 use Rattle.panel_file.specs.Panel.{done, limit, header, kind_number, kind_of, payload_of, kind_of_record, points_of, button_at, content_at, whole_of, head_at, entry, entry_of, record_at}
 use Rattle.stream.specs.Stream.{put}
+use Rattle.stream.proofs.Put.{put-after}
 use Rattle.panel_file.specs.Writing.{record_bytes, end_of, IsSingle, HasSingles}
 
 -- the bytes bs stand in l, from an offset on
@@ -74,6 +75,24 @@ length-point : (p : Point) → length (point_bytes p) ≡ 8
 unfolding point_bytes f32_bytes
 length-point p = refl
 
+pub length-points : (ps : List Point) → length (points_bytes ps) ≡ 8 * length ps
+unfolding points_bytes
+length-points [] = refl
+length-points (p ∷ ps) = omega (arith, length-append (point_bytes p) (points_bytes ps), length-point p, length-points ps)
+
+-- one point more
+last_point : (ps : List Point) (p : Point) → points_bytes (ps ++ p ∷ []) ≡ points_bytes ps ++ point_bytes p
+unfolding points_bytes
+last_point [] p = append-nil (point_bytes p)
+last_point (q ∷ ps) p = ap (λ (x : List ℕ). point_bytes q ++ x) (last_point ps p) ∙ sym (append_assoc (point_bytes q) (points_bytes ps) (point_bytes p))
+
+pub point_put : (file f : List ℕ) (at next i : ℕ) (ps : List Point) (d : Point) → at + 8 * length ps ≤ length file → i < length ps → next ≡ at + 8 * i
+    → f ≡ put file at (points_bytes (take i ps)) → put f next (point_bytes (get_or ps i d)) ≡ put file at (points_bytes (take (i + 1) ps))
+point_put file f at next i ps d e k n h =
+    let so_far : length (points_bytes (take i ps)) ≡ 8 * i = omega (arith, length-points (take i ps), length-take-le i ps (omega (arith, k))) in
+    put-after file f at next (points_bytes (take i ps)) (point_bytes (get_or ps i d)) (omega (arith, e)) (omega (arith, n, so_far)) h
+    ∙ ap (put file at) (sym (ap points_bytes (take_more ps i d k) ∙ last_point (take i ps) (get_or ps i d)))
+
 -- past the first of some points
 next_has : (l : List ℕ) (at after : ℕ) (p : Point) (ps : List Point) → after ≡ at + 8 → Has l at (points_bytes (p ∷ ps)) → Has l after (points_bytes ps)
 unfolding points_bytes
@@ -117,7 +136,7 @@ unfolding kind_number
 kind_short button = omega arith
 kind_short touch = omega arith
 
-payload_short : (k : Kind) → payload_of k < 2 ^ 16
+pub payload_short : (k : Kind) → payload_of k < 2 ^ 16
 unfolding payload_of
 payload_short button = omega arith
 payload_short touch = omega arith
@@ -127,45 +146,64 @@ unfolding points_bytes point_bytes f32_bytes payload_of kind_of_record
 length-payload (ButtonRecord b) = refl
 length-payload (TouchRecord p) = refl
 
+-- a record's bytes are put one part behind the other
+pub parts_put : (file f g h : List ℕ) (at : ℕ) (r : Record) → end_of at r ≤ length file
+    → f ≡ put file at (u16_bytes (payload_of (kind_of_record r))) → g ≡ put f (at + 2) (u16_bytes (kind_number (kind_of_record r)))
+    → h ≡ put g (at + header) (points_bytes (points_of r)) → h ≡ put file at (record_bytes r)
+unfolding record_bytes u16_bytes
+parts_put file f g h at r e p q s =
+    let k = kind_of_record r in
+    let both = q ∙ put-after file f at (at + 2) (u16_bytes (payload_of k)) (u16_bytes (kind_number k)) (omega (arith, e)) refl p in
+    s ∙ put-after file g at (at + header) (u16_bytes (payload_of k) ++ u16_bytes (kind_number k)) (points_bytes (points_of r)) (omega (arith, e)) refl both
+
 pub length-record : (r : Record) → length (record_bytes r) ≡ header + payload_of (kind_of_record r)
 unfolding record_bytes u16_bytes
-length-record r = ap (λ (n : ℕ). header + n) (length-payload r)
+length-record r = omega (arith, length-payload r)
 
 -- what stands at an offset where the bytes of a record are
 module _ (l : List ℕ) (at : ℕ) (r : Record) (h : Has l at (record_bytes r)) where
-  kind : Kind
+  abbrev kind : Kind
   kind = kind_of_record r
 
-  len_has : Has l at (u16_bytes (payload_of kind))
+  abbrev len_bytes : List ℕ
+  len_bytes = u16_bytes (payload_of kind)
+
+  abbrev kind_bytes : List ℕ
+  kind_bytes = u16_bytes (kind_number kind)
+
+  abbrev payload_bytes : List ℕ
+  payload_bytes = points_bytes (points_of r)
+
+  header_has : Has l at (len_bytes ++ kind_bytes)
   unfolding record_bytes
-  len_has = has_front l at (u16_bytes (payload_of kind)) _ h
+  header_has = has_front l at (len_bytes ++ kind_bytes) payload_bytes h
 
-  behind_len : Has l (at + 2) (u16_bytes (kind_number kind) ++ points_bytes (points_of r))
+  payload_has : Has l (at + header) payload_bytes
   unfolding record_bytes u16_bytes
-  behind_len = has_rest l at (at + 2) (u16_bytes (payload_of kind)) _ refl h
+  payload_has = has_rest l at (at + header) (len_bytes ++ kind_bytes) payload_bytes refl h
 
-  payload_has : Has l (at + header) (points_bytes (points_of r))
+  kind_has : Has l (at + 2) kind_bytes
   unfolding u16_bytes
-  payload_has = has_rest l (at + 2) (at + header) (u16_bytes (kind_number kind)) _ (omega arith) behind_len
+  kind_has = has_rest l at (at + 2) len_bytes kind_bytes refl header_has
 
   len_is : u16_at l at ≡ payload_of kind
-  len_is = u16_read l at (payload_of kind) (payload_short kind) len_has
+  len_is = u16_read l at (payload_of kind) (payload_short kind) (has_front l at len_bytes kind_bytes header_has)
 
   kind_is : kind_of (u16_at l (at + 2)) ≡ Ok kind
-  kind_is = ap kind_of (u16_read l (at + 2) (kind_number kind) (kind_short kind) (has_front l (at + 2) (u16_bytes (kind_number kind)) _ behind_len)) ∙ kind_read kind
+  kind_is = ap kind_of (u16_read l (at + 2) (kind_number kind) (kind_short kind) kind_has) ∙ kind_read kind
 
   module _ (inside : end_of at r ≤ length l) (short : length l ≤ limit) where
     head_is : head_at l at ≡ Ok (Some kind)
     unfolding head_at whole_of
     head_is = rw (
-        le-ltb (length l) limit short,
-        lt-leb at (length l) (omega (arith, inside)),
-        le-ltb header (length l - at) (omega (arith, inside)),
-        kind_is,
-        len_is,
-        eq-eqb (payload_of kind) (payload_of kind) refl,
-        le-leb (header + payload_of kind) (length l - at) (omega (arith, inside)),
-      )
+      le-ltb limit (length l) short,
+      lt-leb (length l) at (omega (arith, inside)),
+      le-ltb (length l - at) header (omega (arith, inside)),
+      kind_is,
+      len_is,
+      eq-eqb (payload_of kind) (payload_of kind) refl,
+      le-leb (header + payload_of kind) (length l - at) (omega (arith, inside)),
+    )
 
     pub record_read : HasSingles r → record_at l at ≡ done (entry r (end_of at r))
     unfolding record_at entry_of
@@ -173,19 +211,19 @@ module _ (l : List ℕ) (at : ℕ) (r : Record) (h : Has l at (record_bytes r)) 
 
 -- ---- what is written stands there
 
-pub put_has : (file : List ℕ) (at : ℕ) (bs : List ℕ) → at ≤ length file → Has (put file at bs) at bs
-unfolding put
-put_has file at bs e i k =
-    let front : length (take at file) ≡ at = length-take-le at file e in
-    ap (λ (j : ℕ). get_or (take at file ++ (bs ++ drop (at + length bs) file)) (j + i) 0) (sym front)
-    ∙ get_or-append-add (take at file) (bs ++ drop (at + length bs) file) i 0
-    ∙ get_or_append_left bs (drop (at + length bs) file) 0 i k
-
-take_has : (l : List ℕ) (at n : ℕ) (bs : List ℕ) → at + length bs ≤ n → Has l at bs → Has (take n l) at bs
-take_has l at n bs e h i k = get_or-take n l (at + i) 0 (omega (arith, k, e)) ∙ h i k
-
 pub front_has : (front bs rest : List ℕ) → Has ((front ++ bs) ++ rest) (length front) bs
 front_has front bs rest i k =
     ap (λ (l : List ℕ). get_or l (length front + i) 0) (append_assoc front bs rest)
     ∙ get_or-append-add front (bs ++ rest) i 0
     ∙ get_or_append_left bs rest 0 i k
+
+pub put_has : (file : List ℕ) (at : ℕ) (bs : List ℕ) → at ≤ length file → Has (put file at bs) at bs
+unfolding put
+put_has file at bs e i k =
+    let front : length (take at file) ≡ at = length-take-le at file e in
+    let rest = drop (at + length bs) file in
+    ap (λ (j : ℕ). get_or ((take at file ++ bs) ++ rest) (j + i) 0) (sym front)
+    ∙ front_has (take at file) bs rest i k
+
+pub take_has : (l : List ℕ) (at n : ℕ) (bs : List ℕ) → at + length bs ≤ n → Has l at bs → Has (take n l) at bs
+take_has l at n bs e h i k = get_or-take n l (at + i) 0 (omega (arith, k, e)) ∙ h i k

@@ -44,6 +44,15 @@ module _ (file : List ℕ) (at : ℕ) (r : Record) (next : ℕ) where
   unfolding next_of
   placed e = placed_by (leb (end_of at r) (length file)) (leb (end_of at r) limit) refl refl e
 
+-- one that has none
+pub not_placed : (file : List ℕ) (at : ℕ) (r : Record) → None ≡ next_of file at r → file ≡ file_of file at r
+unfolding next_of file_of
+not_placed file at r e = unplaced (has_place file at r) e
+  where
+    unplaced : (b : Bool) → None ≡ cond b (Some (end_of at r)) None → file ≡ cond b (put file at (record_bytes r)) file
+    unplaced true e = absurd cc
+    unplaced false e = refl
+
 pub record_reads_back : RecordReadsBack
 record_reads_back file at r next n s e more within short =
     let p = placed file at r next e in
@@ -59,11 +68,9 @@ others_stay file at r next e =
     let bs = record_bytes r in
     let behind : at + length bs ≡ next = omega (arith, length-record r, p.is) in
     let front : length (take at file) ≡ at = length-take-le at file (omega (arith, p.inside)) in
-    let head : length (take at file ++ bs) ≡ next = length-append (take at file) bs ∙ omega (arith, front, behind) in
-    (
-      ap (take at) p.bytes ∙ take_at (take at file) (bs ++ drop (at + length bs) file) at front,
-      ap (drop next) p.bytes ∙ ap (drop next) (sym (append_assoc (take at file) bs (drop (at + length bs) file)))
-      ∙ drop_at (take at file ++ bs) (drop (at + length bs) file) next head ∙ ap (λ (k : ℕ). drop k file) behind,
+    let head : length (take at file ++ bs) ≡ next = length-append (take at file) bs ∙ omega (arith, front, behind) in (
+      ap (take at) (p.bytes ∙ append_assoc (take at file) bs (drop (at + length bs) file)) ∙ take_at (take at file) (bs ++ drop (at + length bs) file) at front,
+      ap (drop next) p.bytes ∙ drop_at (take at file ++ bs) (drop (at + length bs) file) next head ∙ ap (λ (k : ℕ). drop k file) behind,
     )
 
 -- ---- records one behind the other

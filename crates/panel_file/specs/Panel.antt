@@ -67,8 +67,8 @@ fields_of b = b.min ∷ b.max ∷ b.top_left ∷ b.top_right ∷ b.bottom_left �
 -- 8 bytes each
 unfoldable pub button_at : List ℕ → ℕ → Button
 button_at file at =
-    let field = λ i. point_at file (at + i) in
-    button_of (point_at file at) (field 8) (field 16) (field 24) (field 32) (field 40)
+    button_of (point_at file at) (point_at file (at + 8)) (point_at file (at + 16))
+    (point_at file (at + 24)) (point_at file (at + 32)) (point_at file (at + 40))
 
 -- a header that shows a broken record
 abbrev pub broken_head : ℕ → Result (Option Kind) Broken

@@ -1,5 +1,5 @@
 -- A record written into a lent file, by its bytes, and what reading it back says. Definitions only.
-use Rattle.std.specs.Prelude.{◌≡◌, ◌≤◌, T, ℕ, ◌+◌, ◌&&◌, List, ◌++◌, length, take, drop, nat_le, Option, Some, None, Float, if◌then◌else◌}
+use Rattle.std.specs.Prelude.{◌≡◌, ◌≤◌, T, ℕ, ◌+◌, Bool, ◌&&◌, List, ◌++◌, length, take, drop, nat_le, Option, Some, None, Float, if◌then◌else◌}
 use Rattle.std.specs.List.{flat_map, AllByRecursion}
 use Rattle.std.specs.Float.{binary32}
 use Rattle.std.specs.Float.Ieee.{fits}

@@ -8,11 +8,11 @@ ghost use Rattle.panel_file.specs.Bytes.{u16_at, u32_at, f32_at, point_at};
 ghost use Rattle.panel_file.specs.Panel.{no_kind_text, broken_number, broken_text, at_text, kind_number, kind_of, fields_of, payload_of, button_at, head_at, record_at, record_answer, records_of, on_done, counts_of, counts_with, kind_of_record, check_answer};
 
 pub use file::{PanelFile, Records};
-pub use writing::{put_record, written_records_read_back};
 use geometry::Point;
 use std::error::Error;
 use std::fmt;
 use std::num::f32_from_bits_with_nan;
+pub use writing::{put_record, written_records_read_back};
 
 mod file;
 mod writing;
@@ -116,7 +116,7 @@ impl Error for Broken {}
 impl Button {
     /// The button that has these fields, in the order of the file.
     pub fn from_points(points: [Point; 6]) -> Button
-        ensures { fields_of result ≡ points.entry }
+        ensures { fields_of result ≡ points }
     {
         let [min, max, top_left, top_right, bottom_left, bottom_right] = points;
         Button {

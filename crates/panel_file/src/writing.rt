@@ -3,7 +3,8 @@
 ghost use Rattle.std.specs.Prelude.{◌≡◌, ◌+◌, ◌*◌, ◌≤◌, length};
 ghost use Rattle.stream.specs.Stream.{put};
 ghost use Rattle.panel_file.specs.Bytes.{u16_bytes, f32_bytes, point_bytes, points_bytes};
-ghost use Rattle.panel_file.specs.Writing.{next_of, file_of, RecordReadsBack, OthersStay, FileReadsBack};
+ghost use Rattle.panel_file.specs.Panel.{payload_of, kind_of_record, points_of};
+ghost use Rattle.panel_file.specs.Writing.{record_bytes, end_of, next_of, file_of, RecordReadsBack, OthersStay, FileReadsBack};
 
 use crate::{HEADER, LIMIT, Record};
 use geometry::Point;
@@ -42,30 +43,60 @@ fn put_points(file: &mut [u8], at: usize, points: &[Point])
     }
 }
 
+// The offset behind a record, where it ends within the file and within the longest.
+#[tactic(auto, unfolding(crate::specs::Writing::next_of))]
+fn end_within(file: &[u8], at: usize, record: Record) -> Option<usize>
+    ensures { result ≡ next_of file.now at «record» }
+{
+    let most = file.len().min(LIMIT);
+    let size = HEADER + record.kind().payload();
+    if most < size {
+        return None;
+    }
+    if most - size < at {
+        return None;
+    }
+    Some(at + size)
+}
+
+#[tactic(auto, unfolding(crate::specs::Panel::payload_of, crate::specs::Panel::kind_of_record))]
+fn put_payload(file: &mut [u8], at: usize, record: Record)
+    requires { at + payload_of (kind_of_record «record») ≤ length file.old }
+    ensures { file.new ≡ put file.old at (points_bytes (points_of «record»)) }
+{
+    match record {
+        Record::Button(b) => put_points(file, at, &b.points()),
+        Record::Touch(p) => put_points(file, at, &[p]),
+    }
+}
+
+// A record's bytes, for which there is room.
+fn put(file: &mut [u8], at: usize, record: Record)
+    requires { end_of at «record» ≤ length file.old }
+    ensures { file.new ≡ put file.old at (record_bytes «record») }
+{
+    let kind = record.kind();
+    put_u16(file, at, kind.payload() as u16);
+    put_u16(file, at + 2, kind.number());
+    put_payload(file, at + HEADER, record);
+}
+
 /// Writes a record at an offset of the file, and answers the offset behind it. Where the record does not end within
 /// the file, and within the longest file, there is none, and nothing is written.
 pub fn put_record(file: &mut [u8], at: usize, record: Record) -> Option<usize>
     ensures next { result ≡ next_of file.old at «record» }
     ensures bytes { file.new ≡ file_of file.old at «record» }
 {
-    let kind = record.kind();
-    let len = kind.payload();
-    let next = at.checked_add(HEADER + len)?;
-    if file.len() < next || LIMIT < next {
+    let Some(next) = end_within(file, at, record) else {
         return None;
-    }
-    put_u16(file, at, len as u16);
-    put_u16(file, at + 2, kind.number());
-    match record {
-        Record::Button(b) => put_points(file, at + HEADER, &b.points()),
-        Record::Touch(p) => put_points(file, at + HEADER, &[p]),
-    }
+    };
+    put(file, at, record);
     Some(next)
 }
 
 /// What is written is read back, and nothing else changes.
 pub fn written_records_read_back()
-    ensures record { RecordReadsBack }
+    ensures written { RecordReadsBack }
     ensures others { OthersStay }
     ensures file { FileReadsBack }
 {}
