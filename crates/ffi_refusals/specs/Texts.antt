@@ -1,7 +1,6 @@
 -- The texts of the numbers that the exported functions return. Those of the refusals 1 to 5 are the texts of the
 -- library's errors, and those of 6 and 7 are theirs without the place. Definitions only.
-use Rattle.std.specs.Prelude.{ℕ, ◌-◌, List, ◌++◌, length, Option, Some, None, if◌then◌else◌, ◌==◌, codes}
-use Rattle.std.specs.List.{replicate}
+use Rattle.std.specs.Prelude.{ℕ, ◌-◌, List, ◌++◌, length, replicate, Option, Some, None, if◌then◌else◌, ◌==◌, codes}
 use Rattle.ffi_floats.specs.Boundary.{wrong_length, none}
 use Rattle.stream.specs.Stream.{bad_record_number, bad_record_text}
 use Rattle.shape.specs.declared.ShapeError.{ShapeError}

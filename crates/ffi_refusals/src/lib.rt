@@ -2,7 +2,7 @@
 
 #![tactic(auto)]
 
-ghost use Rattle.std.specs.Prelude.{◌≡◌, ◌≤◌, length};
+ghost use Rattle.std.specs.Prelude.{◌≡◌, ◌≤◌, length, IfSome};
 ghost use Rattle.std.specs.Option.{option_map};
 ghost use Rattle.ffi_refusals.specs.Texts.{text_of, padded, text_left, told_of};
 
@@ -12,9 +12,10 @@ use stream::BAD_RECORD_TEXT;
 // The room for a text: the longest, and a zero behind it.
 const ROOM: usize = 64;
 
-#[tactic(auto, unfolding(crate::specs::Texts::text_of))]
+#[tactic(auto, unfolding(crate::specs::Texts::text_of, shape::specs::Refusal::number_of))]
 fn text_of(number: u32) -> Option<&'static str>
-    ensures { option_map (λ s. s.now) result ≡ text_of number }
+    ensures value { option_map (λ s. s.now) result ≡ text_of number }
+    ensures short { IfSome result (λ s. length s.now ≤ 64) }
 {
     match number {
         1 => Some(BAD_RECORD_TEXT),
