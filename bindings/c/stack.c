@@ -3,16 +3,16 @@
  *
  *   stack          prints a line for each function: the most bytes that it took, and the most that it may
  *
- * A call runs in a thread whose stack is filled with a pattern. What the call changed is what it took, from the place
- * where it was called on.
+ * A call runs on a stack of its own that is filled with a pattern. What the call changed is what it took, its return
+ * address included.
  */
-#define _POSIX_C_SOURCE 200809L
+#define _XOPEN_SOURCE 600
 #include <math.h>
-#include <pthread.h>
 #include <stdint.h>
 #include <stdio.h>
 #include <stdlib.h>
 #include <string.h>
+#include <ucontext.h>
 
 #include "shackletongue.h"
 
@@ -25,7 +25,7 @@ static unsigned char *stack;
 
 static uint64_t counts[3], need[2], cursor[3], place[2];
 static float places[4], shape[89], points[2 * 1000000], segment[6], rect[4], floats[12], sine, cosine;
-static uint8_t verbs[1000000], file[65536];
+static uint8_t verbs[1000000], file[65536], written[64];
 static uint32_t results[SHACKLETONGUE_RESULTS_LEN];
 static char text[SHACKLETONGUE_TEXT_LEN];
 static size_t file_len;
@@ -48,7 +48,6 @@ static const float shapes[][12] = {
 static const float *sizes = shapes[0];
 static float weight, x, y;
 
-static void nothing(void) { }
 static void version(void) { shackletongue_version(); }
 static void refusal_text(void) { shackletongue_refusal_text(2, text, sizeof text); }
 static void make(void) { shackletongue_shape(sizes, 12, shape, 89); }
@@ -66,7 +65,7 @@ static void conic_need(void) { shackletongue_conic_need(counts, 3, places, 4, 10
 static void read_one(void) { shackletongue_read(PATH, cursor, 3, segment, 6); }
 static void box(void) { shackletongue_box(PATH, rect, 4, place, 1); }
 static void record(void) { shackletongue_record(file, file_len, place, 2, floats, 12); }
-static void put_record(void) { shackletongue_put_record(file, sizeof file, place, 2, floats, 12); }
+static void put_record(void) { shackletongue_put_record(written, sizeof written, place, 2, floats, 12); }
 static void touch(void) { shackletongue_touch(file, file_len, x, y, place, 1); }
 static void touch_all(void) { shackletongue_touch_all(file, file_len, results, SHACKLETONGUE_RESULTS_LEN, place, 1); }
 static void narrow(void) { sine = shackletongue_narrow(x); }
@@ -78,46 +77,51 @@ static void arctangent(void) { sine = shackletongue_atan2(y, x); }
 
 /* ---- one call, measured */
 
-static void (*volatile called)(void);
+static ucontext_t here, there;
 
-static void *thread(void *unused)
+static void (*volatile called)(void);
+static size_t taken;
+
+/* Counts before it returns, since what comes behind it takes stack too. */
+static void run(void)
 {
+    volatile unsigned char frame = 0;
+    unsigned char *at = stack;
     called();
-    return unused;
+    while (at < stack + STACK && *at == PATTERN)
+        at++;
+    taken = (size_t)((unsigned char *)&frame - at);
 }
 
-/* The bytes of a fresh stack that changed, as seen from its base. */
-static size_t changed(void (*call)(void))
+/* The bytes of a fresh stack that the call changed below its caller's. */
+static void take(void (*call)(void))
 {
-    pthread_attr_t attributes;
-    pthread_t id;
-    size_t at = 0;
+    call(); /* once elsewhere, since the first call of a function of the C library takes more, to find it */
     memset(stack, PATTERN, STACK);
     called = call;
-    if (pthread_attr_init(&attributes) != 0 || pthread_attr_setstack(&attributes, stack, STACK) != 0
-        || pthread_create(&id, &attributes, thread, NULL) != 0 || pthread_join(id, NULL) != 0) {
-        fprintf(stderr, "stack: no thread was started\n");
+    if (getcontext(&there) != 0) {
+        fprintf(stderr, "stack: no context\n");
         exit(EXIT_FAILURE);
     }
-    while (at < STACK && stack[at] == PATTERN)
-        at++;
-    return STACK - at;
+    there.uc_stack.ss_sp = stack;
+    there.uc_stack.ss_size = STACK;
+    there.uc_link = &here;
+    makecontext(&there, run, 0);
+    if (swapcontext(&here, &there) != 0) {
+        fprintf(stderr, "stack: the stack was not changed\n");
+        exit(EXIT_FAILURE);
+    }
 }
 
 static size_t worst;
 
 static void measure(void (*call)(void))
 {
-    static size_t base;
-    size_t taken;
-    if (base == 0)
-        base = changed(nothing);
-    taken = changed(call);
-    taken = taken > base ? taken - base : 0;
+    take(call);
     worst = taken > worst ? taken : worst;
 }
 
-/* Two points, one far out, and three weights: flat, usual, and halved as often as any. */
+/* Points inside, far out and none; weights that leave a conic whole, halve it, and halve it as often as any. */
 static void measure_points(void (*call)(void))
 {
     static const float xs[] = {5, 1e6f, NAN}, ys[] = {30, -1e6f, 2}, weights[] = {1, 0.7f, 1e6f};
@@ -192,12 +196,11 @@ static const struct {
 int main(void)
 {
     int status = EXIT_SUCCESS;
-    void *memory;
-    if (posix_memalign(&memory, 4096, STACK) != 0) {
-        fprintf(stderr, "stack: no memory\n");
-        return EXIT_FAILURE;
-    }
-    stack = memory;
+    static union {
+        unsigned char bytes[STACK];
+        long double aligned;
+    } memory;
+    stack = memory.bytes;
     fill_file();
     for (size_t i = 0; i < sizeof rows / sizeof rows[0]; i++) {
         worst = 0;

@@ -144,18 +144,17 @@ fn record(inputs: &mut Inputs, file: &[u8], at: u64, tally: &mut Tally) -> Optio
 
 /// A float as a file's bytes; any NaN as one of them.
 fn written_bits(x: &f32) -> [u8; 4] {
-    let bits = if x.is_nan() {
-        0x7fc0_0000
-    } else {
-        x.to_bits()
-    };
+    let bits = if x.is_nan() { 0x7fc0_0000 } else { x.to_bits() };
     bits.to_le_bytes()
 }
 
 /// A record of any kind written anywhere into a file of any bytes: refused, or its bytes are there and no other byte
 /// has changed.
 pub fn written(inputs: &mut Inputs, tally: &mut Tally) {
-    let kind = inputs.pick(&[1, 2, 1, 2, 1, 2, 0, 3, 1 << 16 | 1, 1 << 32 | 2, u64::MAX]);
+    let kind = match inputs.below(10) {
+        0 => inputs.pick(&[0, 3, 1 << 16 | 1, 1 << 32 | 2, u64::MAX]),
+        k => 1 + k as u64 % 2,
+    };
     let floats: [f32; 12] = std::array::from_fn(|_| inputs.any());
     let size = if kind == 1 { 52 } else { 12 };
     let len = if inputs.one_in(20) {
@@ -164,11 +163,11 @@ pub fn written(inputs: &mut Inputs, tally: &mut Tally) {
         inputs.below(160)
     };
     let about = [0, len.saturating_sub(size), panel::LIMIT - size];
-    let at = match inputs.below(8) {
+    let at = match inputs.below(16) {
         0 => u64::MAX - inputs.below(60) as u64,
         1 => 1 << inputs.below(64),
-        2 => inputs.below(len + 1) as u64,
-        _ => (inputs.pick(&about) + inputs.below(3)).saturating_sub(1) as u64,
+        2..=5 => (inputs.pick(&about) + inputs.below(3)).saturating_sub(1) as u64,
+        _ => inputs.below(len.saturating_sub(size) + 1) as u64,
     };
     let before: Vec<u8> = (0..len).map(|_| inputs.random.bits() as u8).collect();
     let fits = at <= (panel::LIMIT.min(len) as u64).saturating_sub(size as u64) && size <= len;
