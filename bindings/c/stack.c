@@ -1,7 +1,7 @@
 /*
  * Measures how much stack each function takes, and holds it to what the header says.
  *
- *   stack          prints a line for each function: the most bytes that it took, and the most that it may
+ *   stack [all]    with `all` a line for each function: the most bytes that it took, and the most that it may
  *
  * A call runs on a stack of its own that is filled with a pattern. What the call changed is what it took, its return
  * address included.
@@ -158,6 +158,8 @@ static void fill_file(void)
     file_len = (size_t)place[0];
 }
 
+#define KIB 1024
+
 /* The most that a function may take, as the header says. */
 static const struct {
     const char *name;
@@ -165,37 +167,38 @@ static const struct {
     size_t most;
     void (*measure)(void (*)(void));
 } rows[] = {
-    {"version", version, 0, measure},
-    {"refusal_text", refusal_text, 0, measure},
-    {"shape", make, 0, measure_shapes},
-    {"contains", contains, 0, measure_shapes},
-    {"is_consistent", is_consistent, 0, measure_shapes},
-    {"outline_need", outline_need, 0, measure_shapes},
-    {"move_to", move_to, 0, measure_points},
-    {"line_to", line_to, 0, measure_points},
-    {"quad_to", quad_to, 0, measure_points},
-    {"conic_to", conic_to, 0, measure_points},
-    {"cubic_to", cubic_to, 0, measure_points},
-    {"close", close_path, 0, measure_points},
-    {"add_to", add_to, 0, measure_shapes},
-    {"conic_need", conic_need, 0, measure_points},
-    {"read", read_one, 0, measure_points},
-    {"box", box, 0, measure_points},
-    {"record", record, 0, measure},
-    {"put_record", put_record, 0, measure},
-    {"touch", touch, 0, measure_points},
-    {"touch_all", touch_all, 0, measure},
-    {"narrow", narrow, 0, measure_points},
-    {"sqrt", root, 0, measure_points},
-    {"pow", power, 0, measure_points},
-    {"sin_cos", sin_cos, 0, measure_points},
-    {"tan", tangent, 0, measure_points},
-    {"atan2", arctangent, 0, measure_points},
+    {"version", version, KIB, measure},
+    {"refusal_text", refusal_text, KIB, measure},
+    {"shape", make, 8 * KIB, measure_shapes},
+    {"contains", contains, KIB, measure_shapes},
+    {"is_consistent", is_consistent, 32 * KIB, measure_shapes},
+    {"outline_need", outline_need, 8 * KIB, measure_shapes},
+    {"move_to", move_to, KIB, measure_points},
+    {"line_to", line_to, KIB, measure_points},
+    {"quad_to", quad_to, KIB, measure_points},
+    {"conic_to", conic_to, KIB, measure_points},
+    {"cubic_to", cubic_to, KIB, measure_points},
+    {"close", close_path, KIB, measure_points},
+    {"add_to", add_to, 8 * KIB, measure_shapes},
+    {"conic_need", conic_need, KIB, measure_points},
+    {"read", read_one, KIB, measure_points},
+    {"box", box, KIB, measure_points},
+    {"record", record, KIB, measure},
+    {"put_record", put_record, KIB, measure},
+    {"touch", touch, 8 * KIB, measure_points},
+    {"touch_all", touch_all, 64 * KIB, measure},
+    {"narrow", narrow, KIB, measure_points},
+    {"sqrt", root, KIB, measure_points},
+    {"pow", power, KIB, measure_points},
+    {"sin_cos", sin_cos, KIB, measure_points},
+    {"tan", tangent, KIB, measure_points},
+    {"atan2", arctangent, KIB, measure_points},
 };
 
-int main(void)
+int main(int argc, char **argv)
 {
-    int status = EXIT_SUCCESS;
+    int status = EXIT_SUCCESS, all = argc > 1 && strcmp(argv[1], "all") == 0;
+    size_t most = 0;
     static union {
         unsigned char bytes[STACK];
         long double aligned;
@@ -207,11 +210,14 @@ int main(void)
         place[0] = 0;
         place[1] = SHACKLETONGUE_TOUCH;
         rows[i].measure(rows[i].call);
-        printf("%s %zu of %zu\n", rows[i].name, worst, rows[i].most);
+        if (all)
+            printf("%s %zu of %zu\n", rows[i].name, worst, rows[i].most);
+        most = worst > most ? worst : most;
         if (worst > rows[i].most) {
             fprintf(stderr, "stack: %s takes more than the header says\n", rows[i].name);
             status = EXIT_FAILURE;
         }
     }
+    printf("stack: %zu functions, %zu bytes at most\n", sizeof rows / sizeof rows[0], most);
     return status;
 }
