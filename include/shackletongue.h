@@ -1,6 +1,7 @@
 /*
  * shackletongue.h: rounded superellipses, their outlines and their touch areas, for C and C++ on x86-64.
- * Link with libshackletongue.a, which `bindings/build` makes; it needs nothing but the C library's memory functions.
+ * Link with libshackletongue.a, which `bindings/build` makes, for every such processor, or with the one beside it for
+ * x86-64-v2; it needs nothing but the C library's memory functions.
  *
  * Each function does what its definition says for every argument: the proof stands beside its source, in the
  * crates ffi_floats, ffi_shape, ffi_path, ffi_outline, ffi_reader, ffi_panel and ffi_refusals.
