@@ -2,3 +2,5 @@ pub mod Following
 pub mod Counting
 pub mod Walking
 pub mod Opened
+pub mod Back
+pub mod Written
