@@ -1,27 +1,38 @@
 /*
  * shackletongue.h: rounded superellipses, their outlines and their touch areas, for C and C++ on x86-64.
- * Link with libshackletongue.a, which `bindings/build` makes; it needs nothing but the C library's memory functions.
+ * Link with libshackletongue.a, which `bindings/build` makes, for every such processor, or with the one beside it for
+ * x86-64-v2; it needs nothing but the C library's memory functions.
  *
  * Each function does what its definition says for every argument: the proof stands beside its source, in the
- * crates ffi_floats, ffi_shape, ffi_path, ffi_outline, ffi_reader and ffi_panel.
+ * crates ffi_floats, ffi_shape, ffi_path, ffi_outline, ffi_reader, ffi_panel and ffi_refusals.
  *
  * SLICES. Where a parameter NAME is followed by NAME_len, the two are a slice: a pointer to its first element and the
  * number of its elements (elements, not bytes). The caller owns and lends it for the duration of the call; nothing is
  * allocated, freed or kept. What the library cannot test is the caller's to keep:
- *   - the pointer is never NULL, also for length 0, and is aligned for its type;
+ *   - the pointer is aligned for its type and not NULL, unless the length is 0: of a slice of length 0 no element is
+ *     read or written, so its pointer may be any, NULL too;
  *   - all the elements lie in one object and have been given a value;
  *   - a slice that a call may change (its pointer is not const) overlaps no other slice of the same call.
  * Everything else may be anything: any floats, NaNs and infinities included, any counts, any bytes, any lengths.
  *
  * NUMBERS. Unless it is said otherwise a function returns 0 when it is done, or one of the numbers below. A slice that
- * is not const changes only if 0 is returned, with one exception: `place` also says where, if 6 or 7 is returned.
- * Of several causes the first in this list is returned: 100, then 1 to 7.
+ * is not const changes only if 0 is returned, with one exception: where a function reads, `place` also says where, if 6
+ * or 7 is returned. Of several causes the first in this list is returned: 100, then 1 to 7.
  *
- * THREADS. There is no global state: calls on different memory may run at the same time. The stack that a call takes
- * is bounded; the most is under 96 KiB, by shackletongue_touch_all.
+ * THREADS. There is no global state: calls on different memory may run at the same time.
  *
- * FLOATS. Every operation is rounded once, to nearest, ties to even: the caller leaves the rounding mode as C sets it
- * up, and does not flush subnormals. The sign and payload of a NaN say nothing.
+ * STACK. What a call takes is bounded, whatever it is lent: shackletongue_touch_all takes under 64 KiB (most of it at
+ * once), shackletongue_is_consistent under 32, what makes, draws or looks up a shape (shape, outline_need, add_to,
+ * touch) under 8, and every other function under 1. bindings/c/stack.c measures it.
+ *
+ * FLOATS. Every operation is rounded once, to nearest, ties to even. The caller leaves the floating-point environment
+ * as C sets it up:
+ *   - rounding to nearest;
+ *   - no exception unmasked. With traps on (feenableexcept) usual shapes raise SIGFPE, since numbers are also computed
+ *     that turn out not to be wanted, as a quotient by zero. Which flags a call leaves raised says nothing;
+ *   - subnormals neither flushed nor taken for zero (as some programs do that are linked with -ffast-math): that
+ *     changes numbers.
+ * The sign and payload of a NaN say nothing.
  */
 #ifndef SHACKLETONGUE_H
 #define SHACKLETONGUE_H
@@ -45,7 +56,7 @@ extern "C" {
 #define SHACKLETONGUE_NEGATIVE_RADIUS 3u
 /* The maximum is below the minimum, in x or in y. */
 #define SHACKLETONGUE_INVERTED 4u
-/* The call needs more verbs or points than are free. */
+/* The call needs more verbs or points than are free; a record does not end within its file. */
 #define SHACKLETONGUE_NO_ROOM 5u
 /* A verb over 4, or fewer points than the verb takes. */
 #define SHACKLETONGUE_MALFORMED 6u
@@ -53,7 +64,7 @@ extern "C" {
 #define SHACKLETONGUE_BROKEN_FILE 7u
 /* A slice does not have the length that its comment gives. */
 #define SHACKLETONGUE_WRONG_LENGTH 100u
-/* The answer is that there is none: a box of no points, a touch that goes nowhere. */
+/* The answer is that there is none: a box of no points, a touch that goes nowhere, a number without a text. */
 #define SHACKLETONGUE_NONE 101u
 
 /* ---- lengths */
@@ -66,14 +77,22 @@ extern "C" {
 #define SHACKLETONGUE_CURSOR_LEN 3
 #define SHACKLETONGUE_SEGMENT_LEN 6
 #define SHACKLETONGUE_RECT_LEN 4
+#define SHACKLETONGUE_TEXT_LEN 64
 /* The most touches that a panel file holds. */
 #define SHACKLETONGUE_RESULTS_LEN 5461
 /* Buffers of these lengths hold every outline: 1,035 verbs and 2,074 points. */
 #define SHACKLETONGUE_OUTLINE_VERBS 1035
 #define SHACKLETONGUE_OUTLINE_FLOATS 4148
 
-/* The version of this interface: 1. */
+/* The version of this interface. The function has that of the library: where the two are not the same, the header does
+ * not describe the library that was linked. */
+#define SHACKLETONGUE_VERSION 2
 uint32_t shackletongue_version(void);
+
+/* The text of a number above, in English and ASCII, to be shown to people. Returns 0, 100, or 101 if the number has
+ * none, as 0 has. */
+uint32_t shackletongue_refusal_text(uint32_t number,
+                                    char *text, size_t text_len); /* 64; on 0: the text, and zeros to the end */
 
 /*
  * ---- shapes
@@ -241,6 +260,21 @@ uint32_t shackletongue_box(const uint64_t *counts, size_t counts_len, /* 3 */
 uint32_t shackletongue_record(const uint8_t *file, size_t file_len, /* any */
                               uint64_t *place, size_t place_len,    /* 2 */
                               float *floats, size_t floats_len);    /* 12 */
+
+/*
+ * The other way round: writes a record at an offset. Returns 0, 5, 7 or 100. (A record of unknown kind has no length,
+ * so 5 and 7 never meet.) Where it is not 0 nothing changes, place included.
+ *   file:        on 0 the record's bytes stand at the offset; all others stay. 5 where the record does not end within
+ *                the file and within 65,536 bytes.
+ *   place (2):   the offset to write at, and the kind, 1 or 2; 7 where it is another. On 0 place[0] becomes the offset
+ *                behind the record, where the next one goes.
+ *   floats (12): a button's sizes, or in front a touch's x, y; the others are not looked at. Any floats: every bit is
+ *                kept, but for a NaN, which is written as 00 00 c0 7f whatever its sign and payload.
+ * The file holds whatever it held behind the record; a file that is made so ends at the last place[0].
+ */
+uint32_t shackletongue_put_record(uint8_t *file, size_t file_len,          /* any */
+                                  uint64_t *place, size_t place_len,       /* 2 */
+                                  const float *floats, size_t floats_len); /* 12 */
 
 /* No button: what shackletongue_touch_all has for a touch that goes nowhere. */
 #define SHACKLETONGUE_NOWHERE 0xffffffffu

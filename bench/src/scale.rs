@@ -52,7 +52,7 @@ fn number<T>(answer: &Result<T, String>) -> u32 {
 }
 
 /// What is counted, in the order in which it is printed.
-const KINDS: [&str; 23] = [
+const KINDS: [&str; 25] = [
     "shapes made",
     "shapes refused",
     "verdicts of consistency",
@@ -75,6 +75,8 @@ const KINDS: [&str; 23] = [
     "files",
     "files broken",
     "records read",
+    "records written",
+    "records not written",
     "touches",
 ];
 
@@ -137,6 +139,9 @@ fn round(inputs: &mut Inputs, tally: &mut Tally) {
     }
     for _ in 0..400 {
         files::file(inputs, tally);
+    }
+    for _ in 0..2000 {
+        files::written(inputs, tally);
     }
 }
 

@@ -3,12 +3,15 @@
  *
  *   draw FILE > PICTURE
  *
- * A user's program in the small: memory is lent once and used for every button.
+ * A user's program in the small: memory is lent once and used for every button. The exit status is 1 where the file is
+ * refused, cannot be read, or the picture cannot be written, and a line on standard error says so.
  */
+#include <errno.h>
 #include <float.h>
 #include <inttypes.h>
 #include <stdio.h>
 #include <stdlib.h>
+#include <string.h>
 
 #include "shackletongue.h"
 
@@ -147,7 +150,9 @@ static int draw(void)
     float box[4] = {FLT_MAX, FLT_MAX, -FLT_MAX, -FLT_MAX};
     uint32_t number = measure(box, &path, place);
     if (number != SHACKLETONGUE_DONE) {
-        fprintf(stderr, "refused %" PRIu32 " at %" PRIu64 "\n", number, place[0]);
+        char text[SHACKLETONGUE_TEXT_LEN] = "";
+        shackletongue_refusal_text(number, text, sizeof text);
+        fprintf(stderr, "refused %" PRIu32 " at %" PRIu64 ": %s\n", number, place[0], text);
         return EXIT_FAILURE;
     }
     printf("<svg xmlns=\"http://www.w3.org/2000/svg\" stroke=\"black\" stroke-width=\"0.3\"");
@@ -161,14 +166,31 @@ static int draw(void)
     return number == SHACKLETONGUE_DONE ? EXIT_SUCCESS : EXIT_FAILURE;
 }
 
+/* Says what failed, and why. */
+static int fail(const char *what, const char *name)
+{
+    fprintf(stderr, "draw: cannot %s %s: %s\n", what, name, strerror(errno));
+    return EXIT_FAILURE;
+}
+
 int main(int argc, char **argv)
 {
-    FILE *f = argc == 2 ? fopen(argv[1], "rb") : NULL;
-    if (f == NULL) {
-        fprintf(stderr, "usage: draw FILE\n");
+    FILE *f;
+    int status;
+    if (argc != 2) {
+        fprintf(stderr, "usage: draw FILE > PICTURE\n");
         return EXIT_FAILURE;
     }
+    f = fopen(argv[1], "rb");
+    if (f == NULL)
+        return fail("open", argv[1]);
     file_len = fread(file, 1, sizeof file, f);
+    if (ferror(f))
+        return fail("read", argv[1]);
     fclose(f);
-    return draw();
+    status = draw();
+    /* What was printed may still be in a buffer: a full disk may show only now. An earlier error the stream remembers. */
+    if (ferror(stdout) || fclose(stdout) != 0)
+        return fail("write", "the picture");
+    return status;
 }

@@ -26,7 +26,8 @@ struct memory {
     uint64_t counts[3], need[2], cursor[3], place[2];
     float places[4], points[32], shape[89], segment[6], rect[4], floats[12];
     uint32_t results[SHACKLETONGUE_RESULTS_LEN];
-    uint8_t verbs[16];
+    uint8_t verbs[16], file[65552];
+    char text[SHACKLETONGUE_TEXT_LEN];
 };
 
 static struct memory m, before;
@@ -322,9 +323,168 @@ static void panels(void)
     UNCHANGED(100, shackletongue_touch_all(file, 12, m.results, 5461, m.place, 0));
 }
 
+#define PUT(file_len) shackletongue_put_record(m.file, file_len, m.place, 2, m.floats, 12)
+
+/* Written at an offset into so long a file: the bytes stand there, place[0] is behind them, and nothing else changes. */
+static void put(uint64_t kind, uint64_t at, size_t file_len, const uint8_t *bytes, size_t len)
+{
+    m.place[0] = at;
+    m.place[1] = kind;
+    before = m;
+    memcpy(before.file + at, bytes, len);
+    before.place[0] = at + len;
+    CHECK(PUT(file_len) == 0);
+    CHECK(memcmp(&before, &m, sizeof m) == 0);
+}
+
+static void writing(void)
+{
+    static const uint64_t no_kinds[] = {0, 3, 4, 255, 256, 257, 65536, 65537, 65538, 1ull << 32 | 1, UINT64_MAX};
+    static const uint8_t touch[12] = {8, 0, 2, 0, 0x00, 0x00, 0x80, 0x3f, 0x00, 0x00, 0x00, 0x80};
+    static const uint8_t nans[12] = {8, 0, 2, 0, 0x00, 0x00, 0xc0, 0x7f, 0x00, 0x00, 0xc0, 0x7f};
+    uint8_t button[52] = {48, 0, 1, 0};
+    reset();
+    m.place[1] = SHACKLETONGUE_TOUCH;
+    UNCHANGED(100, shackletongue_put_record(m.file, sizeof m.file, m.place, 1, m.floats, 12));
+    UNCHANGED(100, shackletongue_put_record(m.file, sizeof m.file, m.place, 0, m.floats, 12));
+    UNCHANGED(100, shackletongue_put_record(m.file, 0, m.place, 2, m.floats, 11));
+    UNCHANGED(100, shackletongue_put_record(m.file, sizeof m.file, m.place, 2, m.floats, 2));
+    /* a wrong length ahead of everything, an unknown kind wherever its record would stand */
+    for (size_t i = 0; i < sizeof no_kinds / sizeof no_kinds[0]; i++) {
+        m.place[1] = no_kinds[i];
+        UNCHANGED(100, shackletongue_put_record(m.file, sizeof m.file, m.place, 2, m.floats, 0));
+        for (int far = 0; far < 2; far++) {
+            m.place[0] = far ? UINT64_MAX : 0;
+            UNCHANGED(7, PUT(sizeof m.file));
+            UNCHANGED(7, PUT(0));
+        }
+        m.place[0] = 0;
+    }
+    /* a button, every float another */
+    for (int i = 0; i < 12; i++) {
+        m.floats[i] = (float)(1 + i);
+        memcpy(button + 4 + 4 * i, &m.floats[i], 4); /* this machine stores floats with the lowest byte first */
+    }
+    put(SHACKLETONGUE_BUTTON, 0, 52, button, 52);
+    put(SHACKLETONGUE_BUTTON, 3, 55, button, 52);
+    put(SHACKLETONGUE_BUTTON, 65484, 65536, button, 52);
+    put(SHACKLETONGUE_BUTTON, 65484, sizeof m.file, button, 52);
+    m.floats[0] = 1;
+    m.floats[1] = -0.0f;
+    put(SHACKLETONGUE_TOUCH, 0, 12, touch, 12);
+    put(SHACKLETONGUE_TOUCH, 1, sizeof m.file, touch, 12);
+    put(SHACKLETONGUE_TOUCH, 65524, sizeof m.file, touch, 12);
+    /* any NaN is written as one of them; a touch looks at two floats alone */
+    m.floats[0] = -NAN;
+    memcpy(&m.floats[1], "\x01\x00\x80\xff", 4);
+    put(SHACKLETONGUE_TOUCH, 100, 112, nans, 12);
+    /* one byte short, behind 65,536, and so far that the sum would pass 2^64 */
+    for (uint64_t kind = SHACKLETONGUE_BUTTON; kind <= SHACKLETONGUE_TOUCH; kind++) {
+        const size_t size = kind == SHACKLETONGUE_BUTTON ? 52 : 12;
+        m.place[1] = kind;
+        for (size_t len = 0; len < size; len++) {
+            m.place[0] = 0;
+            UNCHANGED(5, PUT(len));
+            m.place[0] = 7;
+            UNCHANGED(5, PUT(7 + len));
+            m.place[0] = 65536 - len;
+            UNCHANGED(5, PUT(65536));
+            UNCHANGED(5, PUT(sizeof m.file));
+            m.place[0] = UINT64_MAX - len;
+            UNCHANGED(5, PUT(sizeof m.file));
+        }
+        m.place[0] = 1ull << 63;
+        UNCHANGED(5, PUT(sizeof m.file));
+        m.place[0] = 1ull << 32;
+        UNCHANGED(5, PUT(sizeof m.file));
+    }
+}
+
+static void texts(void)
+{
+    static const struct {
+        uint32_t number;
+        const char *text;
+    } known[] = {
+        {SHACKLETONGUE_BAD_RECORD, "the record does not suit the buffers"},
+        {SHACKLETONGUE_BEYOND_LIMIT, "a bound or a radius is not finite, or over 16384 in magnitude"},
+        {SHACKLETONGUE_NEGATIVE_RADIUS, "a radius is below zero"},
+        {SHACKLETONGUE_INVERTED, "max is below min on an axis"},
+        {SHACKLETONGUE_NO_ROOM, "no room in the buffers"},
+        {SHACKLETONGUE_MALFORMED, "a verb cannot be read"},
+        {SHACKLETONGUE_BROKEN_FILE, "the panel file is broken"},
+        {SHACKLETONGUE_WRONG_LENGTH, "a slice does not have the length that the header gives"},
+        {SHACKLETONGUE_NONE, "there is none: no point, no button or no such number"},
+    };
+    static const uint32_t unknown[] = {0, 8, 9, 99, 102, 257, 65537, 1u << 31 | 1, UINT32_MAX};
+    reset();
+    for (size_t i = 0; i < sizeof known / sizeof known[0]; i++) {
+        memset(m.text, PATTERN, sizeof m.text);
+        before = m;
+        memset(before.text, 0, sizeof m.text);
+        memcpy(before.text, known[i].text, strlen(known[i].text));
+        CHECK(shackletongue_refusal_text(known[i].number, m.text, 64) == 0);
+        CHECK(memcmp(&before, &m, sizeof m) == 0);
+        memset(m.text, PATTERN, sizeof m.text);
+        UNCHANGED(100, shackletongue_refusal_text(known[i].number, m.text, 63));
+        UNCHANGED(100, shackletongue_refusal_text(known[i].number, m.text, 0));
+    }
+    UNCHANGED(100, shackletongue_refusal_text(0, m.text, 63));
+    for (size_t i = 0; i < sizeof unknown / sizeof unknown[0]; i++)
+        UNCHANGED(101, shackletongue_refusal_text(unknown[i], m.text, 64));
+}
+
+#define NOTHING m.counts, 3, m.places, 4, NULL, 0, NULL, 0
+
+/* A slice of length 0 may have any pointer, NULL too. */
+static void nulls(void)
+{
+    reset();
+    ALL_BUILDING(5, NOTHING);
+    UNCHANGED(0, shackletongue_close(NOTHING));
+    CHECK(READ(NOTHING) == 0 && m.cursor[2] == SHACKLETONGUE_END);
+    m.cursor[2] = 0;
+    UNCHANGED(101, BOX(NOTHING));
+    m.counts[0] = 1;
+    ALL_BUILDING(1, NOTHING);
+    UNCHANGED(1, READ(NOTHING));
+    UNCHANGED(1, BOX(NOTHING));
+    reset();
+    UNCHANGED(0, RECORD(NULL, 0));
+    UNCHANGED(101, TOUCH(NULL, 0));
+    UNCHANGED(0, TOUCH_ALL(NULL, 0));
+    m.place[1] = SHACKLETONGUE_BUTTON;
+    UNCHANGED(5, shackletongue_put_record(NULL, 0, m.place, 2, m.floats, 12));
+    /* where the length is fixed it is a wrong one */
+    UNCHANGED(100, shackletongue_shape(NULL, 0, m.shape, 89));
+    UNCHANGED(100, shackletongue_shape(square_sizes, 12, NULL, 0));
+    UNCHANGED(100, shackletongue_contains(NULL, 0, 1, 2));
+    UNCHANGED(100, shackletongue_is_consistent(NULL, 0, square, 89));
+    UNCHANGED(100, shackletongue_is_consistent(square_sizes, 12, NULL, 0));
+    UNCHANGED(100, shackletongue_outline_need(NULL, 0, m.need, 2));
+    UNCHANGED(100, shackletongue_outline_need(square, 89, NULL, 0));
+    UNCHANGED(100, shackletongue_conic_need(NULL, 0, m.places, 4, 1, 2, 3, 4, 5, m.need, 2));
+    UNCHANGED(100, shackletongue_conic_need(m.counts, 3, NULL, 0, 1, 2, 3, 4, 5, m.need, 2));
+    UNCHANGED(100, shackletongue_conic_need(m.counts, 3, m.places, 4, 1, 2, 3, 4, 5, NULL, 0));
+    UNCHANGED(100, shackletongue_add_to(NULL, 0, PATH(3, 4, 8, 16)));
+    UNCHANGED(100, shackletongue_close(NULL, 0, NULL, 0, m.verbs, 8, m.points, 16));
+    UNCHANGED(100, shackletongue_read(PATH(3, 4, 8, 16), NULL, 0, m.segment, 6));
+    UNCHANGED(100, shackletongue_read(PATH(3, 4, 8, 16), m.cursor, 3, NULL, 0));
+    UNCHANGED(100, shackletongue_box(PATH(3, 4, 8, 16), NULL, 0, m.place, 1));
+    UNCHANGED(100, shackletongue_box(PATH(3, 4, 8, 16), m.rect, 4, NULL, 0));
+    UNCHANGED(100, shackletongue_record(m.file, 12, NULL, 0, m.floats, 12));
+    UNCHANGED(100, shackletongue_record(m.file, 12, m.place, 2, NULL, 0));
+    UNCHANGED(100, shackletongue_touch(m.file, 12, 1, 2, NULL, 0));
+    UNCHANGED(100, shackletongue_touch_all(m.file, 12, NULL, 0, m.place, 1));
+    UNCHANGED(100, shackletongue_touch_all(m.file, 12, m.results, SHACKLETONGUE_RESULTS_LEN, NULL, 0));
+    UNCHANGED(100, shackletongue_put_record(m.file, 12, NULL, 0, m.floats, 12));
+    UNCHANGED(100, shackletongue_put_record(m.file, 12, m.place, 2, NULL, 0));
+    UNCHANGED(100, shackletongue_refusal_text(1, NULL, 0));
+}
+
 int main(void)
 {
-    CHECK(shackletongue_version() == 1);
+    CHECK(shackletongue_version() == SHACKLETONGUE_VERSION);
     reset();
     shapes();
     building();
@@ -333,6 +493,9 @@ int main(void)
     segments();
     unread();
     panels();
+    writing();
+    texts();
+    nulls();
     printf("refusals: %d checks\n", checks);
     return EXIT_SUCCESS;
 }

@@ -1,4 +1,4 @@
-//! Panel files, good and damaged: records, touches one by one, and all touches at once.
+//! Panel files, good and damaged: records read and written, touches one by one, and all touches at once.
 
 use oracle::panel::{self, Record};
 use oracle::vec2::Vec2;
@@ -140,6 +140,58 @@ fn record(inputs: &mut Inputs, file: &[u8], at: u64, tally: &mut Tally) -> Optio
         format!("at {at} of {}", bytes(file))
     });
     next
+}
+
+/// A float as a file's bytes; any NaN as one of them.
+fn written_bits(x: &f32) -> [u8; 4] {
+    let bits = if x.is_nan() { 0x7fc0_0000 } else { x.to_bits() };
+    bits.to_le_bytes()
+}
+
+/// A record of any kind written anywhere into a file of any bytes: refused, or its bytes are there and no other byte
+/// has changed.
+pub fn written(inputs: &mut Inputs, tally: &mut Tally) {
+    let kind = match inputs.below(10) {
+        0 => inputs.pick(&[0, 3, 1 << 16 | 1, 1 << 32 | 2, u64::MAX]),
+        k => 1 + k as u64 % 2,
+    };
+    let floats: [f32; 12] = std::array::from_fn(|_| inputs.any());
+    let size = if kind == 1 { 52 } else { 12 };
+    let len = if inputs.one_in(20) {
+        panel::LIMIT - 60 + inputs.below(200)
+    } else {
+        inputs.below(160)
+    };
+    let about = [0, len.saturating_sub(size), panel::LIMIT - size];
+    let at = match inputs.below(16) {
+        0 => u64::MAX - inputs.below(60) as u64,
+        1 => 1 << inputs.below(64),
+        2..=5 => (inputs.pick(&about) + inputs.below(3)).saturating_sub(1) as u64,
+        _ => inputs.below(len.saturating_sub(size) + 1) as u64,
+    };
+    let before: Vec<u8> = (0..len).map(|_| inputs.random.bits() as u8).collect();
+    let fits = at <= (panel::LIMIT.min(len) as u64).saturating_sub(size as u64) && size <= len;
+    let (number, expected, file_after) = if kind != 1 && kind != 2 {
+        (7, at, before.clone())
+    } else if !fits {
+        (5, at, before.clone())
+    } else {
+        let (from, read) = (at as usize, if kind == 1 { 12 } else { 2 });
+        let mut record = vec![(4 * read) as u8, 0, kind as u8, 0];
+        record.extend(floats[..read].iter().flat_map(written_bits));
+        let mut after = before.clone();
+        after[from..from + size].copy_from_slice(&record);
+        (0, at + size as u64, after)
+    };
+    let (mut file, mut place) = (before, [at, kind]);
+    let answer = library::put_record(&mut file, &mut place, &floats);
+    let equal = answer == number && place == [expected, kind] && file == file_after;
+    tally.case("records written", equal, || {
+        format!("kind {kind} at {at} of {len} bytes")
+    });
+    if answer != 0 {
+        tally.count("records not written", 1);
+    }
 }
 
 /// All touches of the file at once, and one by one points that it need not hold.

@@ -18,6 +18,9 @@ pub const WRONG_LENGTH: u32 = 100;
 /// What they answer where there is nothing to answer.
 pub const NONE: u32 = 101;
 
+/// The version of the exported functions, of all crates together, which include/shackletongue.h declares.
+pub const VERSION: u32 = 2;
+
 /// The single nearest to a double.
 pub fn shackletongue_narrow(x: f64) -> f32
     ensures { result ≡ narrow_of x }
@@ -63,9 +66,9 @@ pub fn shackletongue_atan2(y: f32, x: f32) -> f32
     trigonometry::atan2(y, x)
 }
 
-/// The version of the exported functions, of all crates together.
+/// The version that the library was built as.
 pub fn shackletongue_version() -> u32
-    ensures { result ≡ 1 }
+    ensures { result ≡ 2 }
 {
-    1
+    VERSION
 }

@@ -9,7 +9,7 @@ use Rattle.stream.specs.Stream.{put, floats_in}
 use Rattle.stream.proofs.Put.{put-after}
 use Rattle.panel_file.specs.declared.Button.{Button}
 use Rattle.panel_file.specs.declared.Record.TheVariants.{Button as ButtonRecord}
-use Rattle.ffi_panel.specs.Asking.{points_of, record_floats}
+use Rattle.ffi_panel.specs.Asking.{record_floats}
 
 -- ---- a place of one number, and of two
 
@@ -33,7 +33,7 @@ pub button-stored : (l m₁ m₂ m₃ m₄ m₅ m₆ : List Float) (b : Button)
     → m₃ ≡ put m₂ 4 (floats_in (b.top_left ∷ [])) → m₄ ≡ put m₃ 6 (floats_in (b.top_right ∷ []))
     → m₅ ≡ put m₄ 8 (floats_in (b.bottom_left ∷ [])) → m₆ ≡ put m₅ 10 (floats_in (b.bottom_right ∷ []))
     → m₆ ≡ record_floats (ButtonRecord b) l
-unfolding record_floats points_of
+unfolding record_floats
 button-stored l m₁ m₂ m₃ m₄ m₅ m₆ b e₁ e₂ e₃ e₄ e₅ e₆ =
     let s₂ = grown l m₁ m₂ 2 (floats_in (b.min ∷ [])) (floats_in (b.max ∷ [])) refl e₁ e₂ in
     let s₃ = grown l m₂ m₃ 4 _ (floats_in (b.top_left ∷ [])) refl s₂ e₃ in

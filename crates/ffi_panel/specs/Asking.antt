@@ -1,11 +1,16 @@
 -- What the exported functions on panel files answer and leave in what is lent. Definitions only.
-use Rattle.std.specs.Prelude.{◌&&◌, List, [], ◌∷◌, ℕ, length, get_or, set, Float, if◌then◌else◌, ◌==◌}
+use Rattle.std.specs.Prelude.{◌&&◌, List, [], ◌∷◌, ℕ, length, get_or, set, Float, Option, Some, None, Result, Ok, Err, if◌then◌else◌, ◌==◌}
 use Rattle.ffi_floats.specs.Boundary.{wrong_length, none}
 use Rattle.geometry.specs.declared.Point.{Point}
-use Rattle.stream.specs.Stream.{put, floats_in}
+use Rattle.stream.specs.Stream.{put, floats_in, point_in}
+use Rattle.calls.specs.Calls.{no_room_number}
+use Rattle.panel_file.specs.declared.Kind.{Kind}
+use Rattle.panel_file.specs.declared.Kind.TheVariants as kind
+use Rattle.panel_file.specs.declared.UnknownKind.{UnknownKind}
 use Rattle.panel_file.specs.declared.Record.{Record}
 use Rattle.panel_file.specs.declared.Record.TheVariants.{Button as ButtonRecord, Touch as TouchRecord}
-use Rattle.panel_file.specs.Panel.{Answer, done, refused, Entry, entry, end, record_at}
+use Rattle.panel_file.specs.Panel.{Answer, done, refused, Entry, entry, end, broken_number, kind_number, kind_of, kind_of_record, button_of, points_of, record_at}
+use Rattle.panel_file.specs.Writing.{next_of, file_of}
 use Rattle.touch.specs.Touch.{Place, button, nowhere, touch_of, ResultsLeft, results_left, touch_all_of}
 
 -- the number that is returned, and what is in the lent place
@@ -18,16 +23,6 @@ pub data SlicesLeft (A : Type 0) : Type 0 where
 
 -- ---- one record
 
--- 1 button, 2 touch
-unfoldable pub kind_number : Record → ℕ
-kind_number (ButtonRecord b) = 1
-kind_number (TouchRecord p) = 2
-
--- a record's points, in the order of the file
-unfoldable pub points_of : Record → List Point
-points_of (ButtonRecord b) = b.min ∷ b.max ∷ b.top_left ∷ b.top_right ∷ b.bottom_left ∷ b.bottom_right ∷ []
-points_of (TouchRecord p) = p ∷ []
-
 -- the record's points in front, two floats for each; floats past them keep what they had
 unfoldable pub record_floats : Record → List Float → List Float
 record_floats r fs = put fs 0 (floats_in (points_of r))
@@ -35,7 +30,8 @@ record_floats r fs = put fs 0 (floats_in (points_of r))
 -- A record leaves the offset of the next one, its kind and its points; the end of the file leaves the offset, and 0 for
 -- the kind; a broken file leaves the offset of its first broken record.
 unfoldable pub record_left : Answer Entry → List ℕ → List Float → SlicesLeft Float
-record_left (done (entry r next)) place fs = slices_left 0 (next ∷ kind_number r ∷ []) (record_floats r fs)
+record_left (done (entry r next)) place fs =
+    slices_left 0 (next ∷ kind_number (kind_of_record r) ∷ []) (record_floats r fs)
 record_left (done end) place fs = slices_left 0 (set place 1 0) fs
 record_left (refused n at) place fs = slices_left n (set place 0 at) fs
 
@@ -45,6 +41,35 @@ record_of file place fs =
     if length place == 2 && length fs == 12
     then record_left (record_at file (get_or place 0 0)) place fs
     else slices_left wrong_length place fs
+
+-- ---- one record written
+
+-- the record that the floats in front are
+unfoldable pub record_in : Kind → List Float → Record
+record_in kind.Button fs =
+    let field = point_in fs in
+    ButtonRecord (button_of (field 0) (field 2) (field 4) (field 6) (field 8) (field 10))
+record_in kind.Touch fs = TouchRecord (point_in fs 0)
+
+-- the offset behind the record, where it had room, goes to the place
+unfoldable pub put_left : Option ℕ → List ℕ → List ℕ → SlicesLeft ℕ
+put_left (Some next) place file = slices_left 0 (set place 0 next) file
+put_left None place file = slices_left no_room_number place file
+
+-- a number that is no kind's is refused as in a file
+unfoldable pub put_kind : Result Kind UnknownKind → List ℕ → List ℕ → List Float → SlicesLeft ℕ
+put_kind (Ok kind) file place fs =
+    let at = get_or place 0 0 in
+    let r = record_in kind fs in
+    put_left (next_of file at r) place (file_of file at r)
+put_kind (Err e) file place fs = slices_left broken_number place file
+
+-- the record of the kind whose number stands in the place, at the offset that stands there
+unfoldable pub put_of : List ℕ → List ℕ → List Float → SlicesLeft ℕ
+put_of file place fs =
+    if length place == 2 && length fs == 12
+    then put_kind (kind_of (get_or place 1 0)) file place fs
+    else slices_left wrong_length place file
 
 -- ---- touches
 

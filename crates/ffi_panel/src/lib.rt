@@ -1,22 +1,27 @@
-//! Panel files for programs in C and Rust: the records one by one, and where touches go. A place is
-//! whole numbers that the caller lends: an offset, an index or a count goes there.
+//! Panel files for programs in C and Rust: the records one by one, read and written, and where touches go. A place
+//! is whole numbers that the caller lends: an offset, an index or a count goes there.
 
 #![tactic(auto)]
 
 ghost use Rattle.std.specs.Prelude.{◌≡◌, length};
 ghost use Rattle.octant.specs.Octant.{point};
-ghost use Rattle.ffi_panel.specs.Asking.{place_left, slices_left, kind_number, record_floats, record_of, place_of_touch, places_of_touches};
+ghost use Rattle.ffi_panel.specs.Asking.{place_left, slices_left, record_floats, record_of, record_in, put_of, place_of_touch, places_of_touches};
+ghost use Rattle.std.specs.Result.{result_ok};
+ghost use Rattle.panel_file.specs.Panel.{kind_of};
 
 use ffi_floats::{NONE, WRONG_LENGTH};
 use geometry::Point;
-use panel_file::{Button, Record};
-use stream::put_point;
+use panel_file::{BROKEN, Button, Kind, Record};
+use stream::{point_at, put_point};
 use touch::MOST_TOUCHES;
 
 // A record's place holds an offset and a kind; its floats are at most a button's.
 const RECORD_PLACE: usize = 2;
 
 const RECORD_FLOATS: usize = 12;
+
+// The refusal of what does not fit, as the building calls have it.
+const NO_ROOM: u32 = 5;
 
 // A touch's place holds an index, a count or an offset.
 const TOUCH_PLACE: usize = 1;
@@ -25,30 +30,51 @@ fn store_button(floats: &mut [f32], b: Button)
     requires { length floats.old ≡ 12 }
     ensures { floats.new ≡ record_floats (Record.Button b) floats.old }
 {
-    put_point(floats, 0, b.min);
-    put_point(floats, 2, b.max);
-    put_point(floats, 4, b.top_left);
-    put_point(floats, 6, b.top_right);
-    put_point(floats, 8, b.bottom_left);
-    put_point(floats, 10, b.bottom_right);
+    let [p, q, r, s, t, u] = b.points();
+    put_point(floats, 0, p);
+    put_point(floats, 2, q);
+    put_point(floats, 4, r);
+    put_point(floats, 6, s);
+    put_point(floats, 8, t);
+    put_point(floats, 10, u);
 }
 
-// The number of the record's kind, as C reads it (include/shackletongue.h).
-#[tactic(auto, unfolding(crate::specs::Asking::kind_number, crate::specs::Asking::points_of, crate::specs::Asking::record_floats))]
-fn store_record(floats: &mut [f32], record: Record) -> u64
+#[tactic(auto, unfolding(crate::specs::Asking::record_floats))]
+fn store_record(floats: &mut [f32], record: Record)
     requires { length floats.old ≡ 12 }
-    ensures value { result ≡ kind_number «record» }
-    ensures floats_after { floats.new ≡ record_floats «record» floats.old }
+    ensures { floats.new ≡ record_floats «record» floats.old }
 {
     match record {
-        Record::Button(b) => {
-            store_button(floats, b);
-            1
-        }
-        Record::Touch(p) => {
-            put_point(floats, 0, p);
-            2
-        }
+        Record::Button(b) => store_button(floats, b),
+        Record::Touch(p) => put_point(floats, 0, p),
+    }
+}
+
+// The kind of a number, as C writes it (include/shackletongue.h).
+fn kind_in(number: u64) -> Option<Kind>
+    ensures { result ≡ result_ok (kind_of number) }
+{
+    match u16::try_from(number) {
+        Ok(n) => Kind::try_from(n).ok(),
+        Err(_) => None,
+    }
+}
+
+#[tactic(auto, unfolding(crate::specs::Asking::record_in))]
+fn load_record(kind: Kind, floats: &[f32]) -> Record
+    requires { length floats.now ≡ 12 }
+    ensures { result ≡ record_in kind floats.now }
+{
+    match kind {
+        Kind::Button => Record::Button(Button::from_points([
+            point_at(floats, 0),
+            point_at(floats, 2),
+            point_at(floats, 4),
+            point_at(floats, 6),
+            point_at(floats, 8),
+            point_at(floats, 10),
+        ])),
+        Kind::Touch => Record::Touch(point_at(floats, 0)),
     }
 }
 
@@ -67,7 +93,8 @@ pub fn shackletongue_record(file: &[u8], place: &mut [u64], floats: &mut [f32]) 
     match panel_file::record_at(file, place[0] as usize) {
         Ok(Some((record, next))) => {
             place[0] = next as u64;
-            place[1] = store_record(floats, record);
+            place[1] = u64::from(record.kind().number());
+            store_record(floats, record);
             0
         }
         Ok(None) => {
@@ -78,6 +105,31 @@ pub fn shackletongue_record(file: &[u8], place: &mut [u64], floats: &mut [f32]) 
             place[0] = broken.offset as u64;
             u32::from(broken.number())
         }
+    }
+}
+
+/// Writes the record of the kind in place[1], of a button's 12 floats or in front of them a touch's two, at the offset
+/// in place[0], which becomes the one behind it. 7 where the kind is neither; 5 where the record does not end within
+/// the file and within 65,536 bytes.
+pub fn shackletongue_put_record(file: &mut [u8], place: &mut [u64], floats: &[f32]) -> u32
+    ensures { slices_left result place.new file.new ≡ put_of file.old place.old floats.now }
+{
+    if place.len() != RECORD_PLACE {
+        return WRONG_LENGTH;
+    }
+    if floats.len() != RECORD_FLOATS {
+        return WRONG_LENGTH;
+    }
+    let Some(kind) = kind_in(place[1]) else {
+        return u32::from(BROKEN);
+    };
+    let record = load_record(kind, floats);
+    match panel_file::put_record(file, place[0] as usize, record) {
+        Some(end) => {
+            place[0] = end as u64;
+            0
+        }
+        None => NO_ROOM,
     }
 }
 

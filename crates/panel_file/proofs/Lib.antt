@@ -3,3 +3,5 @@ pub mod Counting
 pub mod Walking
 pub mod Opened
 pub mod Buttons
+pub mod Back
+pub mod Written

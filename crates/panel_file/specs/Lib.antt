@@ -1,3 +1,4 @@
 pub mod Bytes
 pub mod Panel
 pub mod File
+pub mod Writing

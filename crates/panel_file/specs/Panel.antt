@@ -18,8 +18,11 @@ pub data Answer (A : Type 0) : Type 0 where
   refused : ℕ → ℕ → Answer A
 
 -- file cut short, over 65,536 bytes, unknown kind or wrong length
+abbrev pub broken_number : ℕ
+broken_number = 7
+
 abbrev pub broken : {A : Type 0} → ℕ → Answer A
-broken at = refused 7 at
+broken at = refused broken_number at
 
 -- the longest file, and the bytes in front of a payload
 abbrev pub limit : ℕ
@@ -28,33 +31,44 @@ limit = 65536
 abbrev pub header : ℕ
 header = 4
 
--- the kinds by their numbers
+-- the kinds' numbers, and the kind of a number
+unfoldable pub kind_number : Kind → ℕ
+kind_number button = 1
+kind_number touch = 2
+
 unfoldable pub kind_of : ℕ → Result Kind UnknownKind
-kind_of n = if n == 1 then Ok button else (if n == 2 then Ok touch else Err (record { number = n }))
+kind_of n =
+    if n == kind_number button then Ok button
+    else (if n == kind_number touch then Ok touch else Err (record { number = n }))
 
 -- what is said of a number that is no kind's, before the number, and of a broken file, before the offset
 abbrev pub no_kind_text : List ℕ
 no_kind_text = codes "no record has the kind "
 
 abbrev pub broken_text : List ℕ
-broken_text = codes "the panel file is broken at "
+broken_text = codes "the panel file is broken"
+
+abbrev pub at_text : List ℕ
+at_text = codes " at "
 
 -- the length of a payload
 unfoldable pub payload_of : Kind → ℕ
 payload_of button = 48
 payload_of touch = 8
 
--- the fields of a button, in their order, 8 bytes each
+-- the order of a button's fields: the button that has them, and they of a button
+abbrev pub button_of : Point → Point → Point → Point → Point → Point → Button
+button_of p q r s t u =
+    record { min = p; max = q; top_left = r; top_right = s; bottom_left = t; bottom_right = u }
+
+abbrev pub fields_of : Button → List Point
+fields_of b = b.min ∷ b.max ∷ b.top_left ∷ b.top_right ∷ b.bottom_left ∷ b.bottom_right ∷ []
+
+-- 8 bytes each
 unfoldable pub button_at : List ℕ → ℕ → Button
 button_at file at =
-    record {
-      min = point_at file at;
-      max = point_at file (at + 8);
-      top_left = point_at file (at + 16);
-      top_right = point_at file (at + 24);
-      bottom_left = point_at file (at + 32);
-      bottom_right = point_at file (at + 40);
-    }
+    button_of (point_at file at) (point_at file (at + 8)) (point_at file (at + 16))
+    (point_at file (at + 24)) (point_at file (at + 32)) (point_at file (at + 40))
 
 -- a header that shows a broken record
 abbrev pub broken_head : ℕ → Result (Option Kind) Broken
@@ -82,6 +96,15 @@ head_at file at =
 unfoldable pub content_at : Kind → List ℕ → ℕ → Record
 content_at button file at = ButtonRecord (button_at file at)
 content_at touch file at = TouchRecord (point_at file at)
+
+-- what a record is of, and its points in the order of the payload
+unfoldable pub kind_of_record : Record → Kind
+kind_of_record (ButtonRecord b) = button
+kind_of_record (TouchRecord p) = touch
+
+abbrev pub points_of : Record → List Point
+points_of (ButtonRecord b) = fields_of b
+points_of (TouchRecord p) = p ∷ []
 
 -- a record with the offset past it, or the end of the file
 pub data Entry : Type 0 where
@@ -154,10 +177,6 @@ counts_of rs = record { buttons = length (buttons_of rs); touches = length (touc
 unfoldable pub counts_with : Counts → Kind → Counts
 counts_with c button = record { buttons = c.buttons + 1; touches = c.touches }
 counts_with c touch = record { buttons = c.buttons; touches = c.touches + 1 }
-
-unfoldable pub kind_of_record : Record → Kind
-kind_of_record (ButtonRecord b) = button
-kind_of_record (TouchRecord p) = touch
 
 -- what `check` answers
 unfoldable pub check_answer : Result Counts Broken → Answer Counts

@@ -5,21 +5,31 @@
 
 ghost use Rattle.std.specs.Prelude.{◌≡◌, ◌++◌, ◌+◌, ◌<◌, ◌≤◌, length, decimal, Some};
 ghost use Rattle.panel_file.specs.Bytes.{u16_at, u32_at, f32_at, point_at};
-ghost use Rattle.panel_file.specs.Panel.{no_kind_text, broken_text, kind_of, payload_of, button_at, head_at, record_at, record_answer, records_of, on_done, counts_of, counts_with, kind_of_record, check_answer};
+ghost use Rattle.panel_file.specs.Panel.{no_kind_text, broken_number, broken_text, at_text, kind_number, kind_of, fields_of, payload_of, button_at, head_at, record_at, record_answer, records_of, on_done, counts_of, counts_with, kind_of_record, check_answer};
 
 pub use file::{MOST_BUTTONS, PanelFile, Records};
 use geometry::Point;
 use std::error::Error;
 use std::fmt;
 use std::num::f32_from_bits_with_nan;
+pub use writing::{put_record, written_records_read_back};
 
 mod file;
+mod writing;
 
 // The longest file.
 const LIMIT: usize = 65536;
 
 // The bytes in front of a payload: its length and its kind.
 const HEADER: usize = 4;
+
+// The kinds' numbers.
+const BUTTON: u16 = 1;
+
+const TOUCH: u16 = 2;
+
+/// The number of the refusal of a broken file.
+pub const BROKEN: u8 = 7;
 
 /// What a record describes.
 #[derive(Clone, Copy, Debug, PartialEq, Eq)]
@@ -39,11 +49,11 @@ impl TryFrom<u16> for Kind {
 
     ghost try_from_gives = { λ number kind. kind ≡ kind_of number };
 
-    #[tactic(auto, unfolding(crate::specs::Panel::kind_of))]
+    #[tactic(auto, unfolding(crate::specs::Panel::kind_of, crate::specs::Panel::kind_number))]
     fn try_from(number: u16) -> Result<Kind, UnknownKind> {
         match number {
-            1 => Ok(Kind::Button),
-            2 => Ok(Kind::Touch),
+            BUTTON => Ok(Kind::Button),
+            TOUCH => Ok(Kind::Touch),
             _ => Err(UnknownKind { number }),
         }
     }
@@ -87,14 +97,14 @@ pub struct Broken {
 impl Broken {
     /// The refusal's number.
     pub fn number(self) -> u8
-        ensures { result ≡ 7 }
+        ensures { result ≡ broken_number }
     {
-        7
+        BROKEN
     }
 }
 
 impl fmt::Display for Broken {
-    ghost output = { λ b. Some (broken_text ++ decimal b.offset) };
+    ghost output = { λ b. Some (broken_text ++ at_text ++ decimal b.offset) };
 
     fn fmt<W: fmt::Write>(&self, f: &mut fmt::Formatter<W>) -> fmt::Result {
         write!(f, "the panel file is broken at {}", self.offset)
@@ -102,6 +112,37 @@ impl fmt::Display for Broken {
 }
 
 impl Error for Broken {}
+
+impl Button {
+    /// The button that has these fields, in the order of the file.
+    pub fn from_points(points: [Point; 6]) -> Button
+        ensures { fields_of result ≡ points }
+    {
+        let [min, max, top_left, top_right, bottom_left, bottom_right] = points;
+        Button {
+            min,
+            max,
+            top_left,
+            top_right,
+            bottom_left,
+            bottom_right,
+        }
+    }
+
+    /// Its fields, in the order of the file.
+    pub fn points(self) -> [Point; 6]
+        ensures { result ≡ fields_of self }
+    {
+        [
+            self.min,
+            self.max,
+            self.top_left,
+            self.top_right,
+            self.bottom_left,
+            self.bottom_right,
+        ]
+    }
+}
 
 /// How many records of each kind there are.
 #[derive(Clone, Copy, Debug, PartialEq, Eq, Default)]
@@ -180,6 +221,17 @@ fn point_at(file: &[u8], at: usize) -> Point
 }
 
 impl Kind {
+    /// The number that stands for it in a file.
+    #[tactic(auto, unfolding(crate::specs::Panel::kind_number))]
+    pub fn number(self) -> u16
+        ensures { result ≡ kind_number self }
+    {
+        match self {
+            Kind::Button => BUTTON,
+            Kind::Touch => TOUCH,
+        }
+    }
+
     // The payload's length of each kind.
     #[tactic(auto, unfolding(crate::specs::Panel::payload_of))]
     fn payload(self) -> usize
@@ -197,14 +249,14 @@ fn button_at(file: &[u8], at: usize) -> Button
     requires { at + payload_of Kind.Button ≤ length file.now }
     ensures { result ≡ button_at file.now at }
 {
-    Button {
-        min: point_at(file, at),
-        max: point_at(file, at + 8),
-        top_left: point_at(file, at + 16),
-        top_right: point_at(file, at + 24),
-        bottom_left: point_at(file, at + 32),
-        bottom_right: point_at(file, at + 40),
-    }
+    Button::from_points([
+        point_at(file, at),
+        point_at(file, at + 8),
+        point_at(file, at + 16),
+        point_at(file, at + 24),
+        point_at(file, at + 32),
+        point_at(file, at + 40),
+    ])
 }
 
 // The kind of the record at an offset, once its header and its whole payload are there; none at the end of the file.

@@ -1,6 +1,9 @@
 //! The command line of a program: the file that it names, help and the version, and what is said on standard error where
 //! nothing is reported.
 
+ghost use Rattle.std.specs.Prelude.{◌≡◌, ◌≤◌};
+ghost use Rattle.std.specs.Process.{exit_status};
+
 use crate::{Report, RunError, Verdict, run, status_of};
 use clap::builder::ValueParser;
 use clap::error::ErrorKind as WordsErrorKind;
@@ -47,6 +50,8 @@ fn plain_words(error: io::Error) -> Option<&'static str> {
         ErrorKind::NotFound => Some("no such file"),
         ErrorKind::PermissionDenied => Some("permission denied"),
         ErrorKind::IsADirectory => Some("it is a directory"),
+        ErrorKind::NotADirectory => Some("a folder in its name is none"),
+        ErrorKind::InvalidFilename => Some("its name is too long"),
         ErrorKind::StorageFull => Some("no space is left"),
         ErrorKind::BrokenPipe => Some("nothing reads it any more"),
         _ => None,
@@ -79,7 +84,10 @@ impl fmt::Display for FileName<'_> {
 }
 
 // Says on standard error why nothing is reported, and answers the exit status, which says it where nobody reads.
-fn fail(rt: &impl Eprint, name: &str, file: &str, error: RunError) -> u8 {
+#[tactic(auto, unfolding(crate::specs::Running::status_of))]
+fn fail(rt: &impl Eprint, name: &str, file: &str, error: RunError) -> u8
+    ensures { result ≡ 3 }
+{
     let _ = match &error {
         RunError::Memory => eprintln!(rt; "{name}: there is not enough memory"),
         RunError::Read(error) => {
@@ -138,7 +146,9 @@ fn parse<'a>(
 }
 
 // Prints help or the version, or what is wrong with the words.
-fn answer(rt: &(impl Print + Eprint), name: &str, error: Error) -> u8 {
+fn answer(rt: &(impl Print + Eprint), name: &str, error: Error) -> u8
+    ensures { result ≤ 3 }
+{
     if error.kind() == WordsErrorKind::OutOfMemory {
         return fail(rt, name, STANDARD_INPUT, RunError::Memory);
     }
@@ -156,7 +166,9 @@ fn status<R: Env + Files + Input + Print + Eprint + AllocGlobal, P: Report>(
     rt: &R,
     name: &str,
     about: &str,
-) -> u8 {
+) -> u8
+    ensures { result ≤ 3 }
+{
     let words = match words(rt) {
         Ok(words) => words,
         Err(error) if error.kind() == ErrorKind::InvalidData => {
@@ -186,6 +198,8 @@ pub fn start<R: Env + Files + Input + Print + Eprint + AllocGlobal, P: Report>(
     rt: &R,
     name: &str,
     about: &str,
-) -> ExitCode {
+) -> ExitCode
+    ensures { exit_status result ≤ 3 }
+{
     ExitCode::from(status::<R, P>(rt, name, about))
 }

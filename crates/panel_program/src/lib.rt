@@ -5,7 +5,7 @@
 
 #![tactic(auto)]
 
-ghost use Rattle.std.specs.Prelude.{◌≡◌, ℕ, List, ◌++◌, length, take, drop, OnOk, IfOk, IfErr, IfSome};
+ghost use Rattle.std.specs.Prelude.{◌≡◌, ◌≤◌, ℕ, List, ◌++◌, length, take, drop, OnOk, IfOk, IfErr, IfSome};
 ghost use Rattle.std.specs.Io.KnownBytes.{Appends};
 ghost use Rattle.io.specs.Counts.{IsPrefixLen};
 ghost use Rattle.panel_program.specs.declared.RunError.TheVariants.{Memory};
@@ -134,7 +134,8 @@ pub fn run<R: Read, W: Write, P: Report>(
 /// The exit status of a run.
 #[tactic(auto, unfolding(crate::specs::Running::status_of))]
 pub fn status_of(run: &Result<Verdict, RunError>) -> u8
-    ensures { result ≡ status_of run.now }
+    ensures value { result ≡ status_of run.now }
+    ensures most { result ≤ 3 }
 {
     match run {
         Ok(Verdict::Good) => 0,

@@ -57,10 +57,10 @@ pub extern "C" fn shackletongue_atan2(y: f32, x: f32) -> f32
     ffi_floats::shackletongue_atan2(y, x)
 }
 
-/// The version of the exported functions, of all crates together.
+/// The version that the library was built as.
 #[unsafe(no_mangle)]
 pub extern "C" fn shackletongue_version() -> u32
-    ensures { result ≡ 1 }
+    ensures { result ≡ 2 }
 {
     ffi_floats::shackletongue_version()
 }

@@ -4,4 +4,7 @@ use Rattle.ffi_panel.proofs.store_button.Goals as goal
 
 pub returns : goal.returns
 returns c =
-    button-stored _ _ _ _ _ _ _ _ c.put_point.ensures c.put_point-2.ensures c.put_point-3.ensures c.put_point-4.ensures c.put_point-5.ensures c.put_point-6.ensures
+    let e = c.points.ensures in
+    button-stored _ _ _ _ _ _ _ c.args.b
+    (rw e at c.put_point.ensures) (rw e at c.put_point-2.ensures) (rw e at c.put_point-3.ensures)
+    (rw e at c.put_point-4.ensures) (rw e at c.put_point-5.ensures) (rw e at c.put_point-6.ensures)
