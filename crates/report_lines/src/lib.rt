@@ -12,6 +12,7 @@ ghost use Rattle.report_lines.specs.Line.{Added, newline, number_then, line_of};
 ghost use Rattle.report_lines.specs.Text.{text_of, Over};
 ghost use Rattle.report_lines.specs.Records.{none_before, lines_at, lines_by};
 
+use consistency::Verdict;
 use panel_file::{Broken, Counts, PanelFile, Record};
 
 /// One line of a report. A refusal stays a number: the definitions (`Outcome`, `Answer`) know it by its number alone,
@@ -28,10 +29,8 @@ pub enum Line {
     Nowhere,
     /// A good file ends.
     End,
-    /// The index of a button whose outline and touch area are consistent.
-    Consistent(usize),
-    /// The index of a button whose outline and touch area are not.
-    Apart(usize),
+    /// A button's index, and the verdict on its outline and touch area.
+    Inspected(usize, Verdict),
     /// A broken file: the refusal's number and the offset.
     Broken(usize, usize),
 }
@@ -87,6 +86,21 @@ fn shape_line(out: &mut [u8; 72], index: usize, verbs: usize, points: usize) -> 
     number(out, c, points, b"\n")
 }
 
+#[tactic(auto, unfolding(crate::specs::Line::line_of))]
+fn verdict_line(out: &mut [u8; 72], index: usize, verdict: Verdict) -> usize
+    ensures { Added out.old 0 (line_of (Line.Inspected index verdict)) result out.new }
+{
+    let said = match verdict {
+        Verdict::Consistent => " ok\n",
+        Verdict::CenterOutside => " parts company: a center lies outside\n",
+        Verdict::MiddleOutside => " parts company: its middle is not inside\n",
+        Verdict::SidesSmall => " parts company: its sides are too small\n",
+        Verdict::CornerOval => " parts company: a corner is too oval\n",
+        Verdict::OutlineOutside => " parts company: its outline leaves the bounds\n",
+    };
+    one_number(out, b"shape ", index, said.as_bytes())
+}
+
 // The line's text, at the start of out; the answer is its length. No `Display`: its clause speaks where `fmt`
 // answers Ok, and nothing says that it does, so that a text made by it is known as the line or as cut.
 #[tactic(auto, unfolding(crate::specs::Line::line_of))]
@@ -100,8 +114,7 @@ fn text_of(line: Line, out: &mut [u8; 72]) -> usize
         Line::Touch(index) => one_number(out, b"touch ", index, b"\n"),
         Line::Nowhere => word(out, 0, b"touch none\n"),
         Line::End => word(out, 0, b"end\n"),
-        Line::Consistent(index) => one_number(out, b"shape ", index, b" ok\n"),
-        Line::Apart(index) => one_number(out, b"shape ", index, b" parts company\n"),
+        Line::Inspected(index, verdict) => verdict_line(out, index, verdict),
         Line::Broken(cause, offset) => two_numbers(out, b"refused ", cause, b" at ", offset),
     }
 }

@@ -2,7 +2,7 @@ use mathlib.Core.Path.{refl, sym, ◌∙◌}
 use native.Mathlib.Omega.{arith}
 use lib.ListN.{length-take}
 use Rattle.consistency.proofs.FreshOutline.{fresh_step, never_refused, outline-in_front}
-use Rattle.consistency.proofs.has_finite_outline.Goals as goal
+use Rattle.consistency.proofs.outline_within.Goals as goal
 
 pub returns-in_default : goal.returns-in_default
 returns-in_default c =
