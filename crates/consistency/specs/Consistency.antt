@@ -1,11 +1,13 @@
 -- Whether the outline and the touch area of a shape are consistent, and if not, why. Definitions only.
-use Rattle.std.specs.Prelude.{Bool, true, false, not, ◌&&◌, List, [], ◌∷◌, Float, if◌then◌else◌}
+use Rattle.std.specs.Prelude.{Bool, true, false, not, ◌&&◌, List, length, ◌/◌, Float, if◌then◌else◌}
+use Rattle.std.specs.List.{list_all}
+use Rattle.std.specs.Simd.{first_chunks}
 use Rattle.std.specs.Float.{binary32}
 use Rattle.std.specs.Float.Ieee.{of_bits, le}
 use Rattle.ieee.specs.Basic.{abs_of, max_of}
 use Rattle.ieee.specs.Binary32.{◌⊗◌, ◌⊘◌, two}
 use Rattle.geometry.specs.declared.Point.{Point}
-use Rattle.geometry.specs.Point.{add_of, sub_of, shrink_of, abs_point}
+use Rattle.geometry.specs.Point.{add_of, sub_of, shrink_of, abs_point, point_at}
 use Rattle.octant.specs.Octant.{point}
 use Rattle.quadrant.specs.declared.Quadrant.{Quadrant}
 use Rattle.stream.specs.Stream.{all_floats}
@@ -92,10 +94,11 @@ widened b =
     let margin = shrink_of (sides_of b) margin_in_side in
     record { min = sub_of b.min margin; max = add_of b.max margin }
 
-unfoldable pub all_within : Bounds → List Float → Bool
-all_within area (x ∷ y ∷ floats) = within_bounds area (point x y) && all_within area floats
-all_within area (x ∷ []) = true
-all_within area [] = true
+abbrev pub pair_within : Bounds → List Float → Bool
+pair_within area pair = within_bounds area (point_at pair 0)
+
+abbrev pub all_within : Bounds → List Float → Bool
+all_within area floats = list_all (pair_within area) (first_chunks 2 (length floats / 2) floats)
 
 unfoldable pub outline_within : Bounds → RoundSuperellipse → Bool
 outline_within b s = all_within (widened b) (all_floats (elements_of (outline_entries s)))

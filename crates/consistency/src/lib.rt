@@ -4,7 +4,8 @@
 #![tactic(auto)]
 
 ghost use Rattle.std.specs.Prelude.{◌≡◌};
-ghost use Rattle.consistency.specs.Consistency.{within_bounds, sides_of, centers_within, center_of, is_fine, are_fine, reach_of, place_fine, stretched, corners_fine, widened, all_within, outline_within, verdict_of, is_consistent, consistent_of};
+ghost use Rattle.std.specs.List.{list_all};
+ghost use Rattle.consistency.specs.Consistency.{within_bounds, sides_of, centers_within, center_of, is_fine, are_fine, reach_of, place_fine, stretched, corners_fine, widened, pair_within, all_within, outline_within, verdict_of, is_consistent, consistent_of};
 
 use geometry::Point;
 use quadrant::Quadrant;
@@ -12,6 +13,7 @@ use shape::{Bounds, RoundSuperellipse};
 
 // How often the side along which it is taken, and the longer side, go into a magnitude at most.
 const MOST_OWN_SIDES: f32 = 16384.0;
+
 const MOST_LONGER_SIDES: f32 = 2048.0;
 // How often the margin of the outline goes into a side.
 const MARGIN_IN_SIDE: f32 = 128.0;
@@ -114,9 +116,7 @@ fn place_fine(bounds: Bounds) -> bool
     ensures { result ≡ place_fine bounds }
 {
     let sides = sides(bounds);
-    are_fine(reach(bounds), sides)
-        && f32::MIN_POSITIVE <= sides.x
-        && f32::MIN_POSITIVE <= sides.y
+    are_fine(reach(bounds), sides) && f32::MIN_POSITIVE <= sides.x && f32::MIN_POSITIVE <= sides.y
 }
 
 // Each side as the corner's scale stretches it onto the other axis.
@@ -153,11 +153,18 @@ fn widened(bounds: Bounds) -> Bounds
     }
 }
 
+fn pairs_within(area: Bounds, points: &[[f32; 2]]) -> bool
+    ensures { result ≡ list_all (pair_within area) points.now }
+{
+    points
+        .iter()
+        .all(|p| within(area, Point { x: p[0], y: p[1] }))
+}
+
 fn all_within(area: Bounds, floats: &[f32]) -> bool
     ensures { result ≡ all_within area floats.now }
 {
-    let (points, _) = floats.as_chunks::<2>();
-    points.iter().all(|p| within(area, Point { x: p[0], y: p[1] }))
+    pairs_within(area, floats.as_chunks::<2>().0)
 }
 
 // The outline is drawn into buffers that hold the largest one, so it is never refused. Arrays and no Vec: the library
@@ -175,7 +182,7 @@ fn outline_within(bounds: Bounds, shape: RoundSuperellipse) -> bool
 
 /// The verdict on a shape and the bounds that it was made for.
 #[tactic(auto, unfolding(crate::specs::Consistency::verdict_of))]
-pub fn verdict(bounds: Bounds, shape: RoundSuperellipse) -> Verdict
+pub fn verdict_on(bounds: Bounds, shape: RoundSuperellipse) -> Verdict
     ensures { result ≡ verdict_of bounds shape }
 {
     if !centers_within(bounds, shape) {
@@ -201,5 +208,5 @@ pub fn verdict(bounds: Bounds, shape: RoundSuperellipse) -> Verdict
 pub fn is_consistent(bounds: Bounds, shape: RoundSuperellipse) -> bool
     ensures { result ≡ consistent_of bounds shape }
 {
-    verdict(bounds, shape).is_consistent()
+    verdict_on(bounds, shape).is_consistent()
 }

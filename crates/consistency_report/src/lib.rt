@@ -20,7 +20,7 @@ fn finding_line(index: usize, button: Button) -> Line
     match touch::shape_of(button) {
         Ok(shape) => {
             let Button { min, max, .. } = button;
-            Line::Inspected(index, consistency::verdict(Bounds { min, max }, shape))
+            Line::Inspected(index, consistency::verdict_on(Bounds { min, max }, shape))
         }
         Err(error) => Line::Refused(index, usize::from(error.number())),
     }

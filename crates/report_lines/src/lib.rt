@@ -8,7 +8,7 @@ ghost use Rattle.panel_file.specs.declared.Counts.{Counts};
 ghost use Rattle.panel_file.specs.declared.Record.{Record};
 ghost use Rattle.panel_file.specs.File.{records};
 ghost use Rattle.report_lines.specs.declared.Line.{Line};
-ghost use Rattle.report_lines.specs.Line.{Added, newline, number_then, line_of};
+ghost use Rattle.report_lines.specs.Line.{Added, newline, verdict_text, number_then, line_of};
 ghost use Rattle.report_lines.specs.Text.{text_of, Over};
 ghost use Rattle.report_lines.specs.Records.{none_before, lines_at, lines_by};
 
@@ -86,19 +86,19 @@ fn shape_line(out: &mut [u8; 72], index: usize, verbs: usize, points: usize) -> 
     number(out, c, points, b"\n")
 }
 
-#[tactic(auto, unfolding(crate::specs::Line::line_of))]
-fn verdict_line(out: &mut [u8; 72], index: usize, verdict: Verdict) -> usize
-    ensures { Added out.old 0 (line_of (Line.Inspected index verdict)) result out.new }
+// What is said of a shape behind its index.
+fn verdict_text(verdict: Verdict) -> &'static [u8]
+    ensures upper_bound { length result.now ≤ 46 }
+    ensures value { result.now ≡ verdict_text verdict }
 {
-    let said = match verdict {
-        Verdict::Consistent => " ok\n",
-        Verdict::CenterOutside => " parts company: a center lies outside\n",
-        Verdict::MiddleOutside => " parts company: its middle is not inside\n",
-        Verdict::SidesSmall => " parts company: its sides are too small\n",
-        Verdict::CornerOval => " parts company: a corner is too oval\n",
-        Verdict::OutlineOutside => " parts company: its outline leaves the bounds\n",
-    };
-    one_number(out, b"shape ", index, said.as_bytes())
+    match verdict {
+        Verdict::Consistent => b" ok\n",
+        Verdict::CenterOutside => b" parts company: a center lies outside\n",
+        Verdict::MiddleOutside => b" parts company: its middle is not inside\n",
+        Verdict::SidesSmall => b" parts company: its sides are too small\n",
+        Verdict::CornerOval => b" parts company: a corner is too oval\n",
+        Verdict::OutlineOutside => b" parts company: its outline leaves the bounds\n",
+    }
 }
 
 // The line's text, at the start of out; the answer is its length. No `Display`: its clause speaks where `fmt`
@@ -114,7 +114,7 @@ fn text_of(line: Line, out: &mut [u8; 72]) -> usize
         Line::Touch(index) => one_number(out, b"touch ", index, b"\n"),
         Line::Nowhere => word(out, 0, b"touch none\n"),
         Line::End => word(out, 0, b"end\n"),
-        Line::Inspected(index, verdict) => verdict_line(out, index, verdict),
+        Line::Inspected(index, verdict) => one_number(out, b"shape ", index, verdict_text(verdict)),
         Line::Broken(cause, offset) => two_numbers(out, b"refused ", cause, b" at ", offset),
     }
 }
