@@ -1,5 +1,5 @@
 -- The lines of an inspection are those that each record has, and `end`. Assumes nothing.
-use mathlib.Core.Path.{◌≡◌, refl, sym, ap, ◌∙◌}
+use mathlib.Core.Path.{◌≡◌, sym, ap, ◌∙◌}
 use mathlib.Core.List.{List, [], ◌∷◌, ◌++◌, append-nil, append_assoc}
 use Prim.Native.Nat.{ℕ}
 use Rattle.panel_file.specs.declared.Counts.{Counts}
