@@ -136,20 +136,22 @@ pub fn reason(bounds: &[f32], shape: &RoundSuperellipse) -> Option<&'static str>
     if !shape.contains((min + max) / 2.0) {
         return Some("its middle is not inside");
     }
-    // magnitudes on both axes whose floats are too far apart beside the sides
-    let coarse = |x: f32, y: f32| {
-        let longer = 2048.0 * sides.x.max(sides.y);
-        !(x <= longer && y <= longer && x <= 16384.0 * sides.x && y <= 16384.0 * sides.y)
+    // magnitudes on both axes: are their floats close together beside each side, and beside the longer one?
+    let beside_each = |p: Vec2| p.x / 16384.0 <= sides.x && p.y / 16384.0 <= sides.y;
+    let beside_longer = |p: Vec2| {
+        let longer = sides.x.max(sides.y);
+        p.x / 2048.0 <= longer && p.y / 2048.0 <= longer
     };
-    let [x, y] = [0, 1].map(|i| bounds[i].abs().max(bounds[i + 2].abs()));
-    if coarse(x, y) || [sides.x, sides.y].iter().any(|s| *s < f32::MIN_POSITIVE) {
+    let reach = min.abs().max(max.abs());
+    let fine = |x: f32, y: f32| {
+        let stretched = Vec2::new(sides.y * x / y, sides.x * y / x);
+        beside_each(reach) && beside_each(stretched) && beside_longer(reach + 4.0 * stretched)
+    };
+    let normal = sides.x >= f32::MIN_POSITIVE && sides.y >= f32::MIN_POSITIVE;
+    if !(fine(1.0, 1.0) && normal) {
         return Some("its sides are too small");
     }
-    let oval = |q: &[f32; 22]| {
-        let (x, y) = (q[2].abs(), q[3].abs());
-        coarse(sides.y * x / y, sides.x * y / x)
-    };
-    if quadrants.iter().any(oval) {
+    if !quadrants.iter().all(|q| fine(q[2].abs(), q[3].abs())) {
         return Some("a corner is too oval");
     }
     if !access::points(&outline(shape)).iter().all(|p| inside(*p, sides / 128.0)) {

@@ -4,7 +4,7 @@
 use super::Inputs;
 use crate::library::Sizes;
 
-/// How often a side, and the longer side, go at most into what makes floats coarse along it.
+/// How often the side on its axis, and the longer side, go into a magnitude at most.
 const OWN: f64 = 16384.0;
 const LONGER: f64 = 2048.0;
 
@@ -42,12 +42,13 @@ impl Inputs {
 
     /// Where a side begins: at the origin or about it, as far out as the rule lets it be, or anywhere.
     fn place_near(&mut self, side: f64, longer: f64) -> f64 {
-        let far = match self.below(6) {
+        let far = match self.below(7) {
             0 => side,
             1 => side / 2.0,
             2 => self.about(OWN * side),
             3 => self.about(LONGER * longer),
             4 => self.about((OWN * side).min(LONGER * longer)),
+            5 => self.random.within(0.0, LONGER * longer),
             _ => self.scaled64(1e-3, 16384.0),
         };
         let far = far.min(16384.0);
@@ -71,18 +72,19 @@ impl Inputs {
         }
     }
 
-    /// A corner as oval as the rule lets it be: its longer radius lies along that axis.
-    fn oval_near(&mut self, sides: [f64; 2], axis: usize) -> [f64; 2] {
+    /// A corner as oval as the rule lets it be: its longer radius lies along that axis, whose greatest coordinate is given.
+    fn oval_near(&mut self, sides: [f64; 2], reach: [f64; 2], axis: usize) -> [f64; 2] {
         let (along, across) = (sides[axis], sides[1 - axis]);
         let great = match self.below(3) {
             0 => along / 2.0,
             1 => along,
             _ => self.random.within(0.0, along),
         };
+        let left = ((LONGER * along.max(across) - reach[axis]) / 4.0).max(across);
         let stretch = match self.below(3) {
-            0 => LONGER * along.max(across),
+            0 => left,
             1 => OWN * along,
-            _ => (LONGER * along.max(across)).min(OWN * along),
+            _ => left.min(OWN * along),
         };
         let small = great * across / (stretch * self.random.within(0.7, 1.01));
         if axis == 0 {
@@ -92,7 +94,7 @@ impl Inputs {
         }
     }
 
-    fn corner_near(&mut self, sides: [f64; 2]) -> [f64; 2] {
+    fn corner_near(&mut self, sides: [f64; 2], reach: [f64; 2]) -> [f64; 2] {
         match self.below(8) {
             0 => [self.part_of(sides[0].min(sides[1])); 2],
             1 => sides.map(|side| self.part_of(side)),
@@ -101,12 +103,12 @@ impl Inputs {
                 let part = self.random.within(0.0, 1.0);
                 sides.map(|side| part * side)
             }
-            axis => self.oval_near(sides, axis % 2),
+            axis => self.oval_near(sides, reach, axis % 2),
         }
     }
 
-    fn corners_near(&mut self, sides: [f64; 2]) -> [[f64; 2]; 4] {
-        let (a, b) = (self.corner_near(sides), self.corner_near(sides));
+    fn corners_near(&mut self, sides: [f64; 2], reach: [f64; 2]) -> [[f64; 2]; 4] {
+        let [a, b] = [(); 2].map(|()| self.corner_near(sides, reach));
         match self.below(5) {
             0 => [a; 4],
             1 => [a, b, a, b],
@@ -116,7 +118,7 @@ impl Inputs {
                 one[self.below(4)] = a;
                 one
             }
-            _ => [(); 4].map(|()| self.corner_near(sides)),
+            _ => [(); 4].map(|()| self.corner_near(sides, reach)),
         }
     }
 
@@ -124,7 +126,8 @@ impl Inputs {
     pub fn sizes_near(&mut self) -> Sizes {
         let sides = self.sides_near();
         let min = sides.map(|side| self.place_near(side, sides[0].max(sides[1])));
-        let corners = self.corners_near(sides);
+        let reach = [0, 1].map(|i| min[i].abs().max((min[i] + sides[i]).abs()));
+        let corners = self.corners_near(sides, reach);
         let mut sizes = [0.0; 12];
         for i in 0..2 {
             sizes[i] = min[i] as f32;

@@ -5,9 +5,9 @@ use Rattle.std.specs.Simd.{first_chunks}
 use Rattle.std.specs.Float.{binary32}
 use Rattle.std.specs.Float.Ieee.{of_bits, le}
 use Rattle.ieee.specs.Basic.{abs_of, max_of}
-use Rattle.ieee.specs.Binary32.{◌⊗◌, ◌⊘◌, two}
+use Rattle.ieee.specs.Binary32.{◌⊗◌, ◌⊘◌, one, two, four}
 use Rattle.geometry.specs.declared.Point.{Point}
-use Rattle.geometry.specs.Point.{add_of, sub_of, shrink_of, abs_point, point_at}
+use Rattle.geometry.specs.Point.{add_of, sub_of, scale_of, shrink_of, abs_point, point_at}
 use Rattle.octant.specs.Octant.{point}
 use Rattle.quadrant.specs.declared.Quadrant.{Quadrant}
 use Rattle.stream.specs.Stream.{all_floats}
@@ -39,50 +39,61 @@ centers_within b s =
 unfoldable pub center_of : Bounds → Point
 center_of b = shrink_of (add_of b.min b.max) two
 
--- ---- where floats tell points apart: the step between floats of a magnitude is at most 1/512 of the side along which it
--- is taken and 1/4096 of the longer side
-abbrev most_own_sides : Float
-most_own_sides = of_bits binary32 0x4680_0000  -- 16384.0
+-- ---- Between neighbouring floats of a magnitude is a step, which is what rounding amounts to there. On an axis it is at
+-- most 1/512 of the side where the magnitude is at most 16384 times it, and 1/4096 of the longer side where it is at most
+-- 2048 times that.
+abbrev most_sides : Float
+most_sides = of_bits binary32 0x4680_0000  -- 16384.0
+
+unfoldable pub fine_beside_sides : Point → Point → Bool
+fine_beside_sides magnitudes sides =
+    le magnitudes.x (most_sides ⊗ sides.x) && le magnitudes.y (most_sides ⊗ sides.y)
 
 abbrev most_longer_sides : Float
 most_longer_sides = of_bits binary32 0x4500_0000  -- 2048.0
 
-unfoldable pub is_fine : Float → Float → Float → Bool
-is_fine magnitude side longer =
-    le magnitude (most_own_sides ⊗ side) && le magnitude (most_longer_sides ⊗ longer)
+unfoldable pub fine_beside_longer : Point → Point → Bool
+fine_beside_longer magnitudes sides =
+    let most = most_longer_sides ⊗ max_of sides.x sides.y in
+    le magnitudes.x most && le magnitudes.y most
 
--- of a magnitude on each axis
-unfoldable pub are_fine : Point → Point → Bool
-are_fine magnitudes sides =
-    let longer = max_of sides.x sides.y in
-    is_fine magnitudes.x sides.x longer && is_fine magnitudes.y sides.y longer
-
--- ---- 3: the steps between floats of the greatest coordinates are fine, and no side is less than the least normal number
+-- the greatest coordinates in magnitude
 unfoldable pub reach_of : Bounds → Point
 reach_of b = point (max_of (abs_of b.min.x) (abs_of b.max.x)) (max_of (abs_of b.min.y) (abs_of b.max.y))
 
+-- A corner is worked out with equal radii and stretched by its scale, and so are the steps of either side, onto the other
+-- axis: they are those of these magnitudes there.
+unfoldable pub stretched : Point → Point → Point
+stretched sides scale = point (sides.y ⊗ scale.x ⊘ scale.y) (sides.x ⊗ scale.y ⊘ scale.x)
+
+-- The steps of coordinates and corner are fine beside the sides, and beside the longer side both together, the corner's four
+-- times, since the curves fit an oval corner less well.
+unfoldable pub fine_at : Bounds → Point → Bool
+fine_at b scale =
+    let sides = sides_of b in
+    let corner = stretched sides scale in
+    fine_beside_sides (reach_of b) sides
+    && fine_beside_sides corner sides
+    && fine_beside_longer (add_of (reach_of b) (scale_of corner four)) sides
+
+-- ---- 3: the steps of a corner that is not stretched are fine, and no side is less than the least normal number, below
+-- which floats are no closer together
 abbrev least_normal : Float
 least_normal = of_bits binary32 0x0080_0000  -- 2 ^ -126
 
 unfoldable pub place_fine : Bounds → Bool
-place_fine b =
-    let sides = sides_of b in
-    are_fine (reach_of b) sides && le least_normal sides.x && le least_normal sides.y
+place_fine b = fine_at b (point one one) && le least_normal (sides_of b).x && le least_normal (sides_of b).y
 
--- ---- 4: A corner is worked out with equal radii and stretched by its scale, and so is the rounding: what it amounts to
--- on an axis are the steps between floats of the other side, stretched onto that axis. They are fine at each corner.
-unfoldable pub stretched : Point → Quadrant → Point
-stretched sides q =
-    let scale = abs_point q.signed_scale in
-    point (sides.y ⊗ scale.x ⊘ scale.y) (sides.x ⊗ scale.y ⊘ scale.x)
+-- ---- 4: the steps of each corner are fine
+unfoldable pub corner_fine : Bounds → Quadrant → Bool
+corner_fine b q = fine_at b (abs_point q.signed_scale)
 
 unfoldable pub corners_fine : Bounds → RoundSuperellipse → Bool
 corners_fine b s =
-    let sides = sides_of b in
-    are_fine (stretched sides s.top_right) sides
-    && are_fine (stretched sides s.bottom_right) sides
-    && are_fine (stretched sides s.bottom_left) sides
-    && are_fine (stretched sides s.top_left) sides
+    corner_fine b s.top_right
+    && corner_fine b s.bottom_right
+    && corner_fine b s.bottom_left
+    && corner_fine b s.top_left
 
 -- ---- 5: every point of the outline, controls included, lies within the bounds and 1/128 of each side more on every
 -- hand; two floats make a point

@@ -5,14 +5,14 @@
 
 ghost use Rattle.std.specs.Prelude.{◌≡◌};
 ghost use Rattle.std.specs.List.{list_all};
-ghost use Rattle.consistency.specs.Consistency.{within_bounds, sides_of, centers_within, center_of, is_fine, are_fine, reach_of, place_fine, stretched, corners_fine, widened, pair_within, all_within, outline_within, verdict_of, is_consistent, consistent_of};
+ghost use Rattle.consistency.specs.Consistency.{within_bounds, sides_of, centers_within, center_of, fine_beside_sides, fine_beside_longer, reach_of, stretched, fine_at, place_fine, corner_fine, corners_fine, widened, pair_within, all_within, outline_within, verdict_of, is_consistent, consistent_of};
 
 use geometry::Point;
 use quadrant::Quadrant;
 use shape::{Bounds, RoundSuperellipse};
 
-// How often the side along which it is taken, and the longer side, go into a magnitude at most.
-const MOST_OWN_SIDES: f32 = 16384.0;
+// How often the side on its axis, and the longer side, go into a magnitude at most.
+const MOST_SIDES: f32 = 16384.0;
 
 const MOST_LONGER_SIDES: f32 = 2048.0;
 // How often the margin of the outline goes into a side.
@@ -83,20 +83,21 @@ fn center(bounds: Bounds) -> Point
     (bounds.min + bounds.max) / 2.0
 }
 
-// Whether floats of a magnitude are close together beside a side, and beside the longer one.
-#[tactic(auto, unfolding(crate::specs::Consistency::is_fine))]
-fn is_fine(magnitude: f32, side: f32, longer: f32) -> bool
-    ensures { result ≡ is_fine magnitude side longer }
+// Whether floats of the magnitudes are close together beside the side on the same axis.
+#[tactic(auto, unfolding(crate::specs::Consistency::fine_beside_sides))]
+fn fine_beside_sides(magnitudes: Point, sides: Point) -> bool
+    ensures { result ≡ fine_beside_sides magnitudes sides }
 {
-    magnitude <= MOST_OWN_SIDES * side && magnitude <= MOST_LONGER_SIDES * longer
+    magnitudes.x <= MOST_SIDES * sides.x && magnitudes.y <= MOST_SIDES * sides.y
 }
 
-#[tactic(auto, unfolding(crate::specs::Consistency::are_fine))]
-fn are_fine(magnitudes: Point, sides: Point) -> bool
-    ensures { result ≡ are_fine magnitudes sides }
+// The same beside the longer side.
+#[tactic(auto, unfolding(crate::specs::Consistency::fine_beside_longer))]
+fn fine_beside_longer(magnitudes: Point, sides: Point) -> bool
+    ensures { result ≡ fine_beside_longer magnitudes sides }
 {
-    let longer = ieee::max(sides.x, sides.y);
-    is_fine(magnitudes.x, sides.x, longer) && is_fine(magnitudes.y, sides.y, longer)
+    let most = MOST_LONGER_SIDES * ieee::max(sides.x, sides.y);
+    magnitudes.x <= most && magnitudes.y <= most
 }
 
 // The greatest coordinates in magnitude.
@@ -111,35 +112,54 @@ fn reach(bounds: Bounds) -> Point
     }
 }
 
-#[tactic(auto, unfolding(crate::specs::Consistency::place_fine))]
-fn place_fine(bounds: Bounds) -> bool
-    ensures { result ≡ place_fine bounds }
-{
-    let sides = sides(bounds);
-    are_fine(reach(bounds), sides) && f32::MIN_POSITIVE <= sides.x && f32::MIN_POSITIVE <= sides.y
-}
-
-// Each side as the corner's scale stretches it onto the other axis.
+// Each side as a corner's scale stretches it onto the other axis.
 #[tactic(auto, unfolding(crate::specs::Consistency::stretched))]
-fn stretched(sides: Point, q: Quadrant) -> Point
-    ensures { result ≡ stretched sides q }
+fn stretched(sides: Point, scale: Point) -> Point
+    ensures { result ≡ stretched sides scale }
 {
-    let scale = q.signed_scale.abs();
     Point {
         x: sides.y * scale.x / scale.y,
         y: sides.x * scale.y / scale.x,
     }
 }
 
+#[tactic(auto, unfolding(crate::specs::Consistency::fine_at))]
+fn fine_at(bounds: Bounds, scale: Point) -> bool
+    ensures { result ≡ fine_at bounds scale }
+{
+    let sides = sides(bounds);
+    let reach = reach(bounds);
+    let corner = stretched(sides, scale);
+    fine_beside_sides(reach, sides)
+        && fine_beside_sides(corner, sides)
+        && fine_beside_longer(reach + corner * 4.0, sides)
+}
+
+#[tactic(auto, unfolding(crate::specs::Consistency::place_fine))]
+fn place_fine(bounds: Bounds) -> bool
+    ensures { result ≡ place_fine bounds }
+{
+    let sides = sides(bounds);
+    fine_at(bounds, Point { x: 1.0, y: 1.0 })
+        && f32::MIN_POSITIVE <= sides.x
+        && f32::MIN_POSITIVE <= sides.y
+}
+
+#[tactic(auto, unfolding(crate::specs::Consistency::corner_fine))]
+fn corner_fine(bounds: Bounds, q: Quadrant) -> bool
+    ensures { result ≡ corner_fine bounds q }
+{
+    fine_at(bounds, q.signed_scale.abs())
+}
+
 #[tactic(auto, unfolding(crate::specs::Consistency::corners_fine))]
 fn corners_fine(bounds: Bounds, shape: RoundSuperellipse) -> bool
     ensures { result ≡ corners_fine bounds shape }
 {
-    let sides = sides(bounds);
-    are_fine(stretched(sides, shape.top_right), sides)
-        && are_fine(stretched(sides, shape.bottom_right), sides)
-        && are_fine(stretched(sides, shape.bottom_left), sides)
-        && are_fine(stretched(sides, shape.top_left), sides)
+    corner_fine(bounds, shape.top_right)
+        && corner_fine(bounds, shape.bottom_right)
+        && corner_fine(bounds, shape.bottom_left)
+        && corner_fine(bounds, shape.top_left)
 }
 
 #[tactic(auto, unfolding(crate::specs::Consistency::widened))]
