@@ -119,9 +119,11 @@ uint32_t shackletongue_contains(const float *shape, size_t shape_len, /* 89 */
                                 float x, float y);
 
 /*
- * Whether outline and touch area of a shape are consistent: all four centers lie within its bounds, so that no corner
- * looks the wrong way, and every outline point is finite. Returns 1 if so, 0 if not, or 100. Ask before you cut: some
- * shapes with a zero radius beside a nonzero one are drawn right but touched wrong. `sizes` is what `shape` was made of.
+ * Whether outline and touch area of a shape are consistent: no corner looks the wrong way, the middle is inside, the
+ * sides are not too small where they lie, no corner is too oval, and the outline keeps to the bounds; then the two are
+ * at most 0.3 % of the longer side apart, as measured. Returns 1 if so, 0 if not, or 100. Ask before you cut: the
+ * program `inspect` says which it is, and docs/SPECIFICATION.md, "Consistency", what helps. `sizes` is what `shape` was
+ * made of.
  */
 uint32_t shackletongue_is_consistent(const float *sizes, size_t sizes_len,  /* 12 */
                                      const float *shape, size_t shape_len); /* 89 */

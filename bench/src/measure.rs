@@ -3,7 +3,10 @@
 //! Points are taken on the curves of the outline. From each, points further out should not be contained and points further in
 //! should be; the distance from the outline at which the answer first is so is that sample's disagreement.
 
+use std::collections::BTreeMap;
+
 use oracle::random::Random;
+use oracle::{panel, stream};
 
 use crate::library::{self, Path, Shape, Sizes};
 use crate::scale::{hex, Inputs};
@@ -69,25 +72,32 @@ struct Drawn {
     turn: f64,
 }
 
+/// Why a shape is refused or not consistent, by the oracle: the library says only that it is.
+fn reason(sizes: &Sizes) -> &'static str {
+    match stream::shape(sizes) {
+        Ok(shape) => panel::reason(sizes, &shape).expect("a reason of the oracle's too"),
+        Err(_) => "refused",
+    }
+}
+
 impl Drawn {
-    /// None where the shape is refused, is not consistent or has no area.
-    fn new(sizes: &Sizes, path: &mut Path) -> Option<Drawn> {
+    /// Or why it is passed over.
+    fn new(sizes: &Sizes, path: &mut Path) -> Result<Drawn, &'static str> {
         let mut shape = [0.0; 89];
         let made = library::shape(sizes, &mut shape) == 0;
         if !made || library::is_consistent(sizes, &shape) != 1 {
-            return None;
+            return Err(reason(sizes));
         }
         path.clear();
         path.lent().add(&shape);
         let curves = curves(path);
         let turn = area(&curves).signum();
-        let drawn = Drawn {
+        Ok(Drawn {
             sizes: *sizes,
             shape,
             curves,
             turn,
-        };
-        (drawn.lesser() > 0.0).then_some(drawn)
+        })
     }
 
     fn sides(&self) -> P {
@@ -175,8 +185,6 @@ struct Worst {
 #[derive(Default)]
 struct Found {
     shapes: u64,
-    /// Further shapes that are refused, are not consistent or have no area.
-    passed_over: u64,
     samples: u64,
     /// Samples from which a point halfway to the center is not contained, or one far out is.
     wrong: u64,
@@ -233,22 +241,20 @@ impl Found {
         }
     }
 
-    /// Whether outline and touch area are further apart than was recorded, in themselves or by the longer side.
+    /// Whether outline and touch area are further apart than was recorded, in themselves or by the longer side, or a sample wholly.
     fn exceeds(&self, name: &str, recorded: [f64; 2]) -> bool {
         let distance = self.beyond.distance.max(self.within.distance);
         let relative = self.beyond.relative.max(self.within.relative);
-        let more = distance > recorded[0] || relative > recorded[1];
+        let more = distance > recorded[0] || relative > recorded[1] || self.wrong > 0;
         if more {
-            println!("{name}: {distance} and {relative}, recorded are {recorded:?}");
+            let wrong = self.wrong;
+            println!("{name}: {distance} and {relative}, recorded are {recorded:?}; {wrong} wholly apart");
         }
         more
     }
 
     fn print(&self, name: &str) {
-        print!(
-            "| {name} | {} | {} | {} ",
-            self.shapes, self.passed_over, self.samples
-        );
+        print!("| {name} | {} | {} ", self.shapes, self.samples);
         for worst in [&self.beyond, &self.within] {
             print!(
                 "| {} | {} ",
@@ -259,6 +265,9 @@ impl Found {
         println!("| {} |", self.wrong);
     }
 }
+
+/// How many further shapes were passed over, and why.
+type PassedOver = BTreeMap<&'static str, u64>;
 
 /// Two significant digits, rounded up.
 fn up(x: f64) -> f64 {
@@ -279,45 +288,45 @@ fn percent(x: f64) -> String {
     format!("{} %", figure(100.0 * x))
 }
 
-/// The classes of any shapes, and what a run may find them apart at most, by the longer side: a quarter more than docs/ACCURACY.md
-/// has; where there is no such figure the class has a 1.
-const CLASSES: [(&str, f64); 6] = [
-    ("round corners", 0.0022),
-    ("oval up to 1:16", 0.0022),
-    ("oval up to 1:4096", 0.0033),
-    ("oval up to 1:65536", 0.019),
-    ("oval beyond that", 1.0),
-    ("a side under 1/4096 of the greatest coordinate", 1.0),
+/// How far outline and touch area of a consistent shape may be apart, by the longer side (docs/SPECIFICATION.md, "Consistency").
+const PROMISED: f64 = 0.003;
+
+/// The classes of any shapes.
+const CLASSES: [&str; 4] = [
+    "any sizes, round corners",
+    "any sizes, oval up to 1:16",
+    "any sizes, oval beyond that",
+    "near the bounds of the rule",
 ];
 
-fn class(drawn: &Drawn) -> usize {
-    if drawn.lesser() * 4096.0 < drawn.reach() {
-        return 5;
-    }
-    let oval = drawn.oval();
-    let limits = [1.0, 16.0, 4096.0, 65536.0];
-    limits.iter().filter(|limit| oval > **limit).count()
-}
-
-/// So many shapes of any sizes, by class.
-fn any_shapes(count: u64, seed: u64) -> Vec<Found> {
+/// So many consistent shapes, by class: half of them of any sizes, half near the bounds of the rule.
+fn any_shapes(count: u64, seed: u64) -> (Vec<Found>, [PassedOver; 2]) {
     let mut inputs = Inputs::new();
     inputs.random = Random(seed);
     let mut path = Path::with_room(1035, 2074);
     let mut classes: Vec<Found> = CLASSES.iter().map(|_| Found::default()).collect();
-    let mut shapes = 0;
-    while shapes < count {
-        let sizes = inputs.good_sizes();
-        match Drawn::new(&sizes, &mut path) {
-            Some(drawn) => {
-                classes[class(&drawn)].shape(&drawn, 1, &mut inputs.random);
-                shapes += 1;
+    let mut passed_over = [PassedOver::new(), PassedOver::new()];
+    for shape in 0..count {
+        let near = shape % 2 == 1;
+        let drawn = loop {
+            let sizes = if near {
+                inputs.sizes_near()
+            } else {
+                inputs.good_sizes()
+            };
+            match Drawn::new(&sizes, &mut path) {
+                Ok(drawn) => break drawn,
+                Err(why) => *passed_over[near as usize].entry(why).or_default() += 1,
             }
-            // of no class; they stand with the last
-            None => classes[CLASSES.len() - 1].passed_over += 1,
-        }
+        };
+        let oval = drawn.oval();
+        let class = match near {
+            true => 3,
+            false => [1.0, 16.0].iter().filter(|limit| oval > **limit).count(),
+        };
+        classes[class].shape(&drawn, 1, &mut inputs.random);
     }
-    classes
+    (classes, passed_over)
 }
 
 /// Width, height and radii of a button, the radii as parts of the lesser half side.
@@ -408,26 +417,49 @@ fn sizes_at((sides, radii): Button, corner: P, tenths: bool) -> Sizes {
     sizes
 }
 
+/// The kind of which some part company, by the first fault in docs/DIFFERENCES.md, and why they do.
+const PARTING: (&str, &str) = ("two corners square", "a center lies outside");
+
 /// So many buttons of a kind, near the origin or far from it.
-fn buttons(make: fn(&mut Random) -> Button, far: bool, count: u64, seed: u64) -> Found {
+fn buttons(
+    make: fn(&mut Random) -> Button,
+    far: bool,
+    count: u64,
+    seed: u64,
+) -> (Found, PassedOver) {
     let mut random = Random(seed);
     let mut path = Path::with_room(1035, 2074);
     let mut found = Found::default();
+    let mut passed_over = PassedOver::new();
     let (low, high) = if far { (8000.0, 15000.0) } else { (0.0, 500.0) };
     while found.shapes < count {
         let corner = [0; 2].map(|_| random.within(low, high));
         let tenths = random.below(2) == 0;
         let sizes = sizes_at(make(&mut random), corner, tenths);
         match Drawn::new(&sizes, &mut path) {
-            Some(drawn) => found.shape(&drawn, 4, &mut random),
-            None => found.passed_over += 1,
+            Ok(drawn) => found.shape(&drawn, 4, &mut random),
+            Err(why) => *passed_over.entry(why).or_default() += 1,
         }
     }
-    found
+    (found, passed_over)
 }
 
-const HEAD: &str = "| shapes | number | passed over | samples | touch area beyond the outline, at most | by the longer side | within it, at most | by the longer side | wholly apart |
-|---|---|---|---|---|---|---|---|---|";
+/// Whether other buttons were passed over than some of the one kind, of which one in fifteen are too many.
+fn refuses_usual(name: &str, count: u64, passed_over: &PassedOver) -> bool {
+    let (kind, why) = PARTING;
+    passed_over
+        .iter()
+        .any(|(w, n)| name != kind || *w != why || 15 * n > count)
+}
+
+const HEAD: &str = "| shapes | number | samples | touch area beyond the outline, at most | by the longer side | within it, at most | by the longer side | wholly apart |
+|---|---|---|---|---|---|---|---|";
+
+fn print_passed_over(name: &str, passed_over: &PassedOver) {
+    for (why, count) in passed_over {
+        println!("| {name} | {why} | {count} |");
+    }
+}
 
 /// bench measure [SHAPES [SEED]], or bench measure check: a shorter run held against the recorded figures.
 pub fn run(words: &[&str]) {
@@ -443,20 +475,34 @@ pub fn run(words: &[&str]) {
     };
     let mut more = 0;
     let mut examples = Vec::new();
+    let mut passed = Vec::new();
     println!("{HEAD}");
-    for ((name, recorded), found) in CLASSES.into_iter().zip(any_shapes(count, seed)) {
+    let (classes, [any, near]) = any_shapes(count, seed);
+    passed.push(("any sizes".to_string(), any));
+    passed.push(("near the bounds of the rule".to_string(), near));
+    for (name, found) in CLASSES.into_iter().zip(classes) {
         found.print(name);
-        more += found.exceeds(name, [f64::INFINITY, recorded]) as u32;
+        more += found.exceeds(name, [f64::INFINITY, PROMISED]) as u32;
         examples.push((name.to_string(), found));
     }
     for (far, place) in ["near", "far"].into_iter().enumerate() {
-        for (name, make, recorded) in KINDS {
-            let found = buttons(make, far == 1, each.min(count), seed);
-            let name = format!("{name}, {place}");
+        for (kind, make, recorded) in KINDS {
+            let count = each.min(count);
+            let (found, passed_over) = buttons(make, far == 1, count, seed);
+            let name = format!("{kind}, {place}");
             found.print(&name);
             more += found.exceeds(&name, recorded[far]) as u32;
-            examples.push((name, found));
+            if refuses_usual(kind, count, &passed_over) {
+                println!("{name}: passed over {passed_over:?}");
+                more += 1;
+            }
+            examples.push((name.clone(), found));
+            passed.push((name, passed_over));
         }
+    }
+    println!("| passed over | why | number |\n|---|---|---|");
+    for (name, passed_over) in passed {
+        print_passed_over(&name, &passed_over);
     }
     for (name, found) in examples {
         println!(

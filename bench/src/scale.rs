@@ -10,6 +10,7 @@ use oracle::random::Random;
 
 mod files;
 mod inputs;
+mod near;
 mod paths;
 mod shapes;
 

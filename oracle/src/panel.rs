@@ -120,18 +120,52 @@ pub fn report(file: &[u8]) -> Vec<String> {
     lines
 }
 
-/// Whether no center lies outside the bounds, a NaN counting as outside, and every point of the outline is finite.
-pub fn is_consistent(bounds: &[f32], shape: &RoundSuperellipse) -> bool {
-    let within = |i: usize, x: f32| bounds[i] <= x && x <= bounds[i + 2];
+/// Why outline and touch area may be apart, by the rule of docs/SPECIFICATION.md, "Consistency"; None where they are
+/// consistent.
+pub fn reason(bounds: &[f32], shape: &RoundSuperellipse) -> Option<&'static str> {
+    let (min, max) = (Vec2::new(bounds[0], bounds[1]), Vec2::new(bounds[2], bounds[3]));
+    let sides = max - min;
+    let inside = |p: Vec2, by: Vec2| {
+        let (low, high) = (min - by, max + by);
+        low.x <= p.x && p.x <= high.x && low.y <= p.y && p.y <= high.y
+    };
     let (quadrants, _) = shape_floats(shape);
-    let centered = quadrants.iter().all(|q| within(0, q[0]) && within(1, q[1]));
-    centered && access::points(&outline(shape)).iter().all(|p| p.is_finite())
+    if !quadrants.iter().all(|q| inside(Vec2::new(q[0], q[1]), Vec2::ZERO)) {
+        return Some("a center lies outside");
+    }
+    if !shape.contains((min + max) / 2.0) {
+        return Some("its middle is not inside");
+    }
+    // magnitudes on both axes: are their floats close together beside each side, and beside the longer one?
+    let beside_each = |p: Vec2| p.x / 16384.0 <= sides.x && p.y / 16384.0 <= sides.y;
+    let beside_longer = |p: Vec2| {
+        let longer = sides.x.max(sides.y);
+        p.x / 2048.0 <= longer && p.y / 2048.0 <= longer
+    };
+    let reach = min.abs().max(max.abs());
+    let fine = |x: f32, y: f32| {
+        let stretched = Vec2::new(sides.y * x / y, sides.x * y / x);
+        beside_each(reach) && beside_each(stretched) && beside_longer(reach + 4.0 * stretched)
+    };
+    let normal = sides.x >= f32::MIN_POSITIVE && sides.y >= f32::MIN_POSITIVE;
+    if !(fine(1.0, 1.0) && normal) {
+        return Some("its sides are too small");
+    }
+    if !quadrants.iter().all(|q| fine(q[2].abs(), q[3].abs())) {
+        return Some("a corner is too oval");
+    }
+    if !access::points(&outline(shape)).iter().all(|p| inside(*p, sides / 128.0)) {
+        return Some("its outline leaves the bounds");
+    }
+    None
 }
 
 fn verdict(button: &Button) -> String {
     match &button.shape {
-        Ok(shape) if is_consistent(&button.floats, shape) => "ok".to_string(),
-        Ok(_) => "parts company".to_string(),
+        Ok(shape) => match reason(&button.floats, shape) {
+            Some(why) => format!("parts company: {why}"),
+            None => "ok".to_string(),
+        },
         Err(refusal) => refusal.clone(),
     }
 }
@@ -147,7 +181,7 @@ pub fn consistency_report(file: &[u8]) -> Vec<String> {
         Record::Touch(_) => None,
     });
     let lines = buttons.enumerate().map(|(i, b)| format!("shape {i} {}", verdict(b)));
-    lines.collect()
+    lines.chain(["end".to_string()]).collect()
 }
 
 #[cfg(test)]

@@ -191,11 +191,13 @@ impl Inputs {
     }
 
     pub fn sizes(&mut self) -> Sizes {
-        let mut sizes = if self.one_in(8) {
-            let listed = self.below(self.listed.len());
-            self.listed[listed]
-        } else {
-            self.good_sizes()
+        let mut sizes = match self.below(8) {
+            0 => {
+                let listed = self.below(self.listed.len());
+                self.listed[listed]
+            }
+            1 => self.sizes_near(),
+            _ => self.good_sizes(),
         };
         for _ in 0..[0, 0, 0, 0, 1, 1, 2, 3][self.below(8)] {
             self.disturb(&mut sizes);

@@ -70,7 +70,7 @@ pub fn from_sizes(inputs: &mut Inputs, tally: &mut Tally) {
         return;
     };
     let consistent = library::is_consistent(&sizes, &lent);
-    let theirs = panel::is_consistent(&sizes, &shape) as u32;
+    let theirs = panel::reason(&sizes, &shape).is_none() as u32;
     tally.case("verdicts of consistency", consistent == theirs, input);
     let path = outline(&shape, &lent, tally, input);
     let mut asked = points(&sizes, &mut inputs.random);

@@ -86,9 +86,11 @@ impl RoundSuperellipse {
         raw::contains(&self.shape, point.x, point.y) == 1
     }
 
-    /// Whether outline and touch area are consistent: no corner looks the wrong way, and every point
-    /// of the outline is finite. Ask before you cut brass: some shapes with a zero radius beside a
-    /// nonzero one are drawn right but touched wrong.
+    /// Whether outline and touch area are consistent: no corner looks the wrong way, the middle is
+    /// inside, the sides are not too small where they lie, no corner is too oval, and the outline
+    /// keeps to the bounds. Then the two are at most 0.3 % of the longer side apart, as measured.
+    /// Ask before you cut brass: the program `inspect` says which it is, and
+    /// docs/SPECIFICATION.md, "Consistency", what helps.
     #[must_use]
     pub fn is_consistent(&self) -> bool {
         raw::is_consistent(&self.sizes, &self.shape) == 1

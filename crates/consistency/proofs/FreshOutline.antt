@@ -10,7 +10,7 @@ use lib.Ieee.{Float}
 use Rattle.std.proofs.Common.{Result, Ok, Err}
 use Rattle.stream.specs.declared.Builder.{Builder}
 use Rattle.stream.specs.declared.Element.{Element}
-use Rattle.stream.specs.Stream.{State, state, fresh_builder, has_room, room_for, sizes_of, push_all}
+use Rattle.stream.specs.Stream.{State, state, fresh_builder, has_room, room_for, all_floats, sizes_of, push_all}
 use Rattle.reader.proofs.Holding.{Holding, holding_none, holding_good, holding_all}
 use Rattle.conic_writer.specs.Entries.{elements_of}
 use Rattle.calls.specs.declared.BuildError.{BuildError}
@@ -21,7 +21,6 @@ use Rattle.outline_need.specs.Entries.{outline_entries}
 use Rattle.outline_need.proofs.Turns.{outline_parts}
 use Rattle.outline.specs.declared.BuildingCall.TheVariants.{AddTo}
 use Rattle.outline.specs.Step.{step}
-use Rattle.consistency.specs.Consistency.{all_finite, finite_outline}
 
 -- an outline drawn on a record that is fresh
 pub fresh_step : (b : Builder) (vs : List ℕ) (fs : List Float) (shape : RoundSuperellipse) {o : Outcome} → b ≡ fresh_builder → o ≡ step (state b vs fs) (AddTo shape) → o ≡ step (state fresh_builder vs fs) (AddTo shape)
@@ -61,12 +60,11 @@ module _ (vs : List ℕ) (fs : List Float) (shape : RoundSuperellipse) (v : leng
   -- its floats stand in front, and there are as many as the buffer holds at most
   pub record OutlineInFront (b : Builder) (fs' : List Float) : Type 0 where
     pub few : 2 * b.points ≤ 4148
-    pub finite : all_finite (take (2 * b.points) fs') ≡ finite_outline shape
+    pub floats : take (2 * b.points) fs' ≡ all_floats ks
 
   pub outline-in_front : (r : Result Builder BuildError) (b : Builder) (vs' : List ℕ) (fs' : List Float) → r ≡ Ok b → outcome_of r vs' fs' ≡ step s (AddTo shape) → OutlineInFront b fs'
-  unfolding finite_outline
   outline-in_front r b vs' fs' d e =
       let t : state b vs' fs' ≡ push_all s ks = ap (λ (o : Outcome). o.state) (ap (λ (x : Result Builder BuildError). outcome_of x vs' fs') (sym d) ∙ e ∙ accepted) in
       let h = subst (λ (x : State). Holding x ks) (sym t) holding in
       let z = (outline_parts shape).sizes in
-      record { few = omega (arith, h.size, z.most_points); finite = ap all_finite (ap (λ (n : ℕ). take (2 * n) fs') h.size ∙ h.floats) }
+      record { few = omega (arith, h.size, z.most_points); floats = ap (λ (n : ℕ). take (2 * n) fs') h.size ∙ h.floats }

@@ -1,6 +1,6 @@
--- The program `inspect`: of each button of a panel file, whether its outline and its touch area are consistent.
--- Definitions only.
-use Rattle.std.specs.Prelude.{ℕ, ◌+◌, List, [], ◌∷◌, Option, Some, None, if◌then◌else◌}
+-- The program `inspect`: of each button of a panel file, whether its outline and its touch area are consistent, and
+-- if not, why. Definitions only.
+use Rattle.std.specs.Prelude.{ℕ, ◌+◌, List, [], ◌∷◌, Option, Some, None}
 use Rattle.panel_file.specs.declared.Button.{Button}
 use Rattle.panel_file.specs.declared.Counts.{Counts}
 use Rattle.panel_file.specs.declared.Record.{Record}
@@ -10,13 +10,13 @@ use Rattle.shape.specs.declared.Bounds.{Bounds}
 use Rattle.shape.specs.Refusal.{ShapeOutcome}
 use Rattle.shape.specs.Refusal.{made as Made, refused as RefusedBy}
 use Rattle.touch.specs.Touch.{shape_of}
-use Rattle.consistency.specs.Consistency.{consistent_of}
+use Rattle.consistency.specs.Consistency.{verdict_of}
 use Rattle.report_lines.specs.declared.Line.{Line}
-use Rattle.report_lines.specs.declared.Line.TheVariants.{Refused, Consistent, Apart, Broken}
+use Rattle.report_lines.specs.declared.Line.TheVariants.{Refused, End, Inspected, Broken}
 
 -- the line of a shape made for some bounds, or of one that is refused
 unfoldable pub finding_of : ℕ → Bounds → ShapeOutcome → Line
-finding_of index bounds (Made s) = if consistent_of bounds s then Consistent index else Apart index
+finding_of index bounds (Made s) = Inspected index (verdict_of bounds s)
 finding_of index bounds (RefusedBy cause) = Refused index cause
 
 -- a button's line
@@ -28,9 +28,9 @@ unfoldable pub finding_at : Counts → Record → Option Line
 finding_at c (ButtonRecord b) = Some (finding c.buttons b)
 finding_at c (TouchRecord p) = None
 
--- the lines of some records, the first button's index being the one given
+-- the lines of some records, the first button's index being the one given, then `end`
 unfoldable pub findings_of : ℕ → List Record → List Line
-findings_of index [] = []
+findings_of index [] = End ∷ []
 findings_of index (ButtonRecord b ∷ rs) = finding index b ∷ findings_of (index + 1) rs
 findings_of index (TouchRecord p ∷ rs) = findings_of index rs
 

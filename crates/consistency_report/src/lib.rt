@@ -1,12 +1,13 @@
 //! The report of the program `inspect` on a panel file (docs/SPECIFICATION.md, "Consistency"): of each button,
-//! whether its outline and its touch area are consistent.
+//! whether its outline and its touch area are consistent, and if not, why.
 
 #![tactic(auto)]
 
 ghost use Rattle.std.specs.Prelude.{◌≡◌, ◌++◌, length, drop};
 ghost use Rattle.io.specs.Counts.{IsPrefixLen};
-ghost use Rattle.report_lines.specs.Text.{text_of};
-ghost use Rattle.consistency_report.specs.Findings.{finding, finding_at, inspection_of};
+ghost use Rattle.panel_file.specs.File.{records};
+ghost use Rattle.report_lines.specs.Text.{text_of, Over};
+ghost use Rattle.consistency_report.specs.Findings.{finding, finding_at, findings_of, inspection_of};
 
 use panel_file::{Button, Counts, PanelFile, Record};
 use report_lines::{Line, Lines};
@@ -19,10 +20,7 @@ fn finding_line(index: usize, button: Button) -> Line
     match touch::shape_of(button) {
         Ok(shape) => {
             let Button { min, max, .. } = button;
-            if consistency::is_consistent(Bounds { min, max }, shape) {
-                return Line::Consistent(index);
-            }
-            Line::Apart(index)
+            Line::Inspected(index, consistency::verdict_on(Bounds { min, max }, shape))
         }
         Err(error) => Line::Refused(index, usize::from(error.number())),
     }
@@ -42,6 +40,15 @@ impl Lines for Findings {
     }
 }
 
+// The report on a good file.
+fn put_findings(file: &PanelFile, out: &mut [u8; 393288]) -> usize
+    ensures prefix_len { IsPrefixLen result out.new }
+    ensures over { Over out.old 0 (text_of (findings_of 0 (records file.now))) result out.new }
+{
+    let n = report_lines::put_records(&Findings, file, out);
+    report_lines::put_line(Line::End, out, n)
+}
+
 /// The report's text, at the start of out; the answer is its length. What is past it stays.
 pub fn inspect(file: &[u8], out: &mut [u8; 393288]) -> usize
     ensures prefix_len { IsPrefixLen result out.new }
@@ -49,7 +56,7 @@ pub fn inspect(file: &[u8], out: &mut [u8; 393288]) -> usize
     ensures out_after { out.new ≡ text_of (inspection_of file.now) ++ drop result out.old }
 {
     match PanelFile::new(file) {
-        Ok(file) => report_lines::put_records(&Findings, &file, out),
+        Ok(file) => put_findings(&file, out),
         Err(broken) => report_lines::put_line(Line::from(broken), out, 0),
     }
 }

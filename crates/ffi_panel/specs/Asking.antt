@@ -1,5 +1,6 @@
 -- What the exported functions on panel files answer and leave in what is lent. Definitions only.
-use Rattle.std.specs.Prelude.{◌&&◌, List, [], ◌∷◌, ℕ, length, get_or, set, Float, Option, Some, None, Result, Ok, Err, if◌then◌else◌, ◌==◌}
+use Rattle.std.specs.Prelude.{◌≡◌, ◌≤◌, ◌&&◌, List, [], ◌∷◌, ℕ, length, get_or, set, take, Float, Option, Some, None, Result, Ok, Err, if◌then◌else◌, ◌==◌}
+use Rattle.std.specs.Float.{nan}
 use Rattle.ffi_floats.specs.Boundary.{wrong_length, none}
 use Rattle.geometry.specs.declared.Point.{Point}
 use Rattle.stream.specs.Stream.{put, floats_in, point_in}
@@ -9,8 +10,8 @@ use Rattle.panel_file.specs.declared.Kind.TheVariants as kind
 use Rattle.panel_file.specs.declared.UnknownKind.{UnknownKind}
 use Rattle.panel_file.specs.declared.Record.{Record}
 use Rattle.panel_file.specs.declared.Record.TheVariants.{Button as ButtonRecord, Touch as TouchRecord}
-use Rattle.panel_file.specs.Panel.{Answer, done, refused, Entry, entry, end, broken_number, kind_number, kind_of, kind_of_record, button_of, points_of, record_at}
-use Rattle.panel_file.specs.Writing.{next_of, file_of}
+use Rattle.panel_file.specs.Panel.{Answer, done, refused, Entry, entry, end, limit, broken_number, kind_number, kind_of, kind_of_record, button_of, points_of, record_at}
+use Rattle.panel_file.specs.Writing.{next_of, file_of, IsSingle}
 use Rattle.touch.specs.Touch.{Place, button, nowhere, touch_of, ResultsLeft, results_left, touch_all_of}
 
 -- the number that is returned, and what is in the lent place
@@ -70,6 +71,16 @@ put_of file place fs =
     if length place == 2 && length fs == 12
     then put_kind (kind_of (get_or place 1 0)) file place fs
     else slices_left wrong_length place file
+
+-- What was written, where the function returned 0, is read from there, in a file that ends anywhere behind the record:
+-- it leaves the same place, and the record's floats in front of what is lent for them (gs).
+abbrev pub WrittenIsRead : Type 0
+WrittenIsRead =
+    (file place left after : List ℕ) (fs gs : List Float) (k : Kind) (n : ℕ)
+    → kind_of (get_or place 1 0) ≡ Ok k → put_of file place fs ≡ slices_left 0 left after
+    → ((i : ℕ) → IsSingle (get_or fs i nan)) → length gs ≡ 12
+    → get_or left 0 0 ≤ n → n ≤ length file → n ≤ limit
+    → record_of (take n after) place gs ≡ slices_left 0 left (record_floats (record_in k fs) gs)
 
 -- ---- touches
 

@@ -5,7 +5,7 @@
 
 ghost use Rattle.std.specs.Prelude.{◌≡◌, length};
 ghost use Rattle.octant.specs.Octant.{point};
-ghost use Rattle.ffi_panel.specs.Asking.{place_left, slices_left, record_floats, record_of, record_in, put_of, place_of_touch, places_of_touches};
+ghost use Rattle.ffi_panel.specs.Asking.{place_left, slices_left, record_floats, record_of, record_in, put_of, WrittenIsRead, place_of_touch, places_of_touches};
 ghost use Rattle.std.specs.Result.{result_ok};
 ghost use Rattle.panel_file.specs.Panel.{kind_of};
 
@@ -132,6 +132,11 @@ pub fn shackletongue_put_record(file: &mut [u8], place: &mut [u64], floats: &[f3
         None => NO_ROOM,
     }
 }
+
+/// What `shackletongue_put_record` wrote, `shackletongue_record` reads.
+pub fn written_records_are_read()
+    ensures { WrittenIsRead }
+{}
 
 /// The index of the last button that contains the point, which lies on top, goes to place[0]. 101 where the touch goes
 /// nowhere; with a 7, place[0] is the offset of the first broken record.

@@ -3,7 +3,6 @@
 use Rattle.std.specs.Prelude.{ℕ, ◌-◌, List, ◌++◌, length, replicate, Option, Some, None, if◌then◌else◌, ◌==◌, codes}
 use Rattle.ffi_floats.specs.Boundary.{wrong_length, none}
 use Rattle.stream.specs.Stream.{bad_record_number, bad_record_text}
-use Rattle.shape.specs.declared.ShapeError.{ShapeError}
 use Rattle.shape.specs.declared.ShapeError.TheVariants.{BeyondLimit, NegativeRadius, Inverted}
 use Rattle.shape.specs.Refusal.{number_of, refusal_text}
 use Rattle.calls.specs.Calls.{no_room_number, no_room_text}

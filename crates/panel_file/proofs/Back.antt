@@ -1,20 +1,17 @@
 -- What is written is read back. Assumes nothing.
 use mathlib.Core.Path.{◌≡◌, refl, sym, ap, ap₂, ◌∙◌}
-use mathlib.Core.Bool.{true, false}
 use mathlib.Core.List.{List, [], ◌∷◌, ◌++◌, append_assoc, append-nil}
-use Prim.Native.Nat.{ℕ, suc, ◌+◌, ◌-◌, ◌*◌, ◌/◌, ◌%◌, ◌^◌, ◌≤◌, ◌<◌}
+use Prim.Native.Nat.{ℕ, ◌+◌, ◌-◌, ◌*◌, ◌/◌, ◌%◌, ◌^◌, ◌≤◌, ◌<◌}
 use native.Mathlib.Nat.{add_assoc, add-zero}
 use native.Mathlib.Omega.{arith}
-use lib.Dec.{T, leb, ltb, eqb}
-use lib.Ieee.{Float, binary32, of_bits, to_bits, fits}
+use lib.Ieee.{Float, binary32, of_bits, to_bits}
 use lib.Ieee.Bits.{of_bits-to_bits, to_bits-lt}
 use lib.ListN.{length, take, drop, get_or, length-append}
 use lib.Seq.{length-take-le}
-use borrow.Author.Tests.{eq-eqb, le-leb, lt-leb, le-ltb, lt-ltb, ltb-false, leb-true, leb-false}
-use Rattle.std.specs.Int.{w16, w32, to_le_bytes, from_le_bytes}
-use Rattle.std.proofs.lemmas.Nat.{from_le_bytes-to_le_bytes_4}
-use Rattle.std.proofs.lemmas.List.{take_more, get_or-take, get_or-append-add, get_or-append_right, get_or_append_left}
-use Rattle.std.proofs.Common.{Option, Some, None, Result, Ok, Err}
+use borrow.Author.Tests.{eq-eqb, le-leb, lt-leb, le-ltb}
+use Rattle.std.specs.Int.{w32, to_le_bytes}
+use Rattle.std.proofs.lemmas.List.{take_more, get_or-take, get_or-append-add, get_or_append_left}
+use Rattle.std.proofs.Common.{Some, Ok}
 use Rattle.geometry.specs.declared.Point.{Point}
 use Rattle.panel_file.specs.Bytes.{u16_at, u32_at, f32_at, point_at, u16_bytes, f32_bytes, point_bytes, points_bytes}
 use Rattle.panel_file.specs.declared.Kind.{Kind}
@@ -75,7 +72,7 @@ length-point : (p : Point) → length (point_bytes p) ≡ 8
 unfolding point_bytes f32_bytes
 length-point p = refl
 
-pub length-points : (ps : List Point) → length (points_bytes ps) ≡ 8 * length ps
+length-points : (ps : List Point) → length (points_bytes ps) ≡ 8 * length ps
 unfolding points_bytes
 length-points [] = refl
 length-points (p ∷ ps) = omega (arith, length-append (point_bytes p) (points_bytes ps), length-point p, length-points ps)
@@ -141,7 +138,7 @@ unfolding payload_of
 payload_short button = omega arith
 payload_short touch = omega arith
 
-pub length-payload : (r : Record) → length (points_bytes (points_of r)) ≡ payload_of (kind_of_record r)
+length-payload : (r : Record) → length (points_bytes (points_of r)) ≡ payload_of (kind_of_record r)
 unfolding points_bytes point_bytes f32_bytes payload_of kind_of_record
 length-payload (ButtonRecord b) = refl
 length-payload (TouchRecord p) = refl

@@ -1,7 +1,7 @@
 -- The laws of `written_records_read_back`. Assumes nothing.
-use mathlib.Core.Path.{◌≡◌, refl, sym, ap, ◌∙◌, subst}
+use mathlib.Core.Path.{◌≡◌, refl, sym, ap, ◌∙◌}
 use mathlib.Core.Bool.{Bool, true, false, cond, ◌&&◌}
-use mathlib.Core.List.{List, [], ◌∷◌, ◌++◌, append_assoc, append-nil}
+use mathlib.Core.List.{List, [], ◌∷◌, ◌++◌, append_assoc}
 use Prim.Native.Nat.{ℕ, ◌+◌, ◌≤◌}
 use native.Mathlib.Omega.{arith}
 use lib.Dec.{leb}
@@ -9,12 +9,12 @@ use lib.ListN.{length, take, drop, length-append}
 use lib.Seq.{length-take-le, take_at, drop_at}
 use borrow.Author.Tests.{leb-true, le-leb, le-ltb}
 use Rattle.std.specs.List.{flat_map, AllByRecursion}
-use Rattle.std.proofs.Common.{Option, Some, None}
+use Rattle.std.proofs.Common.{Some, None}
 use Rattle.std.proofs.lemmas.List.Concat.{flat_map-cons}
 use Rattle.stream.specs.Stream.{put}
 use Rattle.stream.proofs.Put.{length-put}
 use Rattle.panel_file.specs.declared.Record.{Record}
-use Rattle.panel_file.specs.Panel.{done, limit, entry, end, entry_of, head_at, record_at, on_done, record_and_rest, records_from, records_of}
+use Rattle.panel_file.specs.Panel.{done, limit, entry, entry_of, head_at, record_at, on_done, record_and_rest, records_from, records_of}
 use Rattle.panel_file.specs.Writing.{record_bytes, end_of, has_place, next_of, file_of, HasSingles, RecordReadsBack, OthersStay, FileReadsBack}
 use Rattle.panel_file.proofs.Following.{records_follow}
 use Rattle.panel_file.proofs.Back.{length-record, record_read, put_has, take_has, front_has}

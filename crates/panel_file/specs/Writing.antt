@@ -3,7 +3,6 @@ use Rattle.std.specs.Prelude.{◌≡◌, ◌≤◌, T, ℕ, ◌+◌, Bool, ◌&&
 use Rattle.std.specs.List.{flat_map, AllByRecursion}
 use Rattle.std.specs.Float.{binary32}
 use Rattle.std.specs.Float.Ieee.{fits}
-use Rattle.geometry.specs.declared.Point.{Point}
 use Rattle.stream.specs.Stream.{put}
 use Rattle.panel_file.specs.declared.Record.{Record}
 use Rattle.panel_file.specs.Bytes.{u16_bytes, points_bytes}

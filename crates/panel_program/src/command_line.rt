@@ -50,7 +50,7 @@ fn plain_words(error: io::Error) -> Option<&'static str> {
         ErrorKind::NotFound => Some("no such file"),
         ErrorKind::PermissionDenied => Some("permission denied"),
         ErrorKind::IsADirectory => Some("it is a directory"),
-        ErrorKind::NotADirectory => Some("a folder in its name is none"),
+        ErrorKind::NotADirectory => Some("a part of its path is no directory"),
         ErrorKind::InvalidFilename => Some("its name is too long"),
         ErrorKind::StorageFull => Some("no space is left"),
         ErrorKind::BrokenPipe => Some("nothing reads it any more"),

@@ -1,17 +1,28 @@
 -- Laws of texts written one behind the other. Assumes nothing.
 use mathlib.Core.Path.{◌≡◌, sym, ap, ap₂, ◌∙◌}
 use mathlib.Core.List.{List, [], ◌∷◌, ◌++◌, append-nil}
-use Prim.Native.Nat.{ℕ, ◌+◌, ◌≤◌}
+use Prim.Native.Nat.{ℕ, ◌≤◌}
 use native.Mathlib.Omega.{arith}
 use native.Mathlib.Nat.{zero-add}
 use lib.ListN.{length, take, drop, length-append, take-append-drop}
 use lib.Seq.{drop-drop}
 use Rattle.io.specs.Counts.{IsPrefixLen}
+use Rattle.consistency.specs.declared.Verdict.{Verdict}
+use Rattle.consistency.specs.declared.Verdict.TheVariants.{Consistent, CenterOutside, MiddleOutside, SidesSmall, CornerOval, OutlineOutside}
 use Rattle.report_lines.specs.declared.Line.{Line}
-use Rattle.report_lines.specs.declared.Line.TheVariants.{Shape, Refused, Touch, Nowhere, End, Consistent, Apart, Broken}
-use Rattle.report_lines.specs.Line.{number_then, line_of}
+use Rattle.report_lines.specs.declared.Line.TheVariants.{Shape, Refused, Touch, Nowhere, End, Inspected, Broken}
+use Rattle.report_lines.specs.Line.{verdict_text, number_then, line_of}
 use Rattle.report_lines.proofs.Adding.{decimal_most}
 use Rattle.report_lines.specs.Text.{text_of, Over}
+
+-- what is said of a shape is not long
+verdict_most : (v : Verdict) → length (verdict_text v) ≤ 46
+verdict_most Consistent = omega arith
+verdict_most CenterOutside = omega arith
+verdict_most MiddleOutside = omega arith
+verdict_most SidesSmall = omega arith
+verdict_most CornerOval = omega arith
+verdict_most OutlineOutside = omega arith
 
 -- a line is not long
 pub line_most : (l : Line) → length (line_of l) ≤ 72
@@ -21,8 +32,7 @@ line_most (Refused index cause) = simp length-append (omega (arith, decimal_most
 line_most (Touch index) = simp length-append (omega (arith, decimal_most index))
 line_most Nowhere = omega arith
 line_most End = omega arith
-line_most (Consistent index) = simp length-append (omega (arith, decimal_most index))
-line_most (Apart index) = simp length-append (omega (arith, decimal_most index))
+line_most (Inspected index verdict) = let m = verdict_most verdict in simp length-append (omega (arith, decimal_most index))
 line_most (Broken cause offset) = simp length-append (omega (arith, decimal_most cause, decimal_most offset))
 
 -- one line is its text

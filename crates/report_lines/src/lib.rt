@@ -8,10 +8,11 @@ ghost use Rattle.panel_file.specs.declared.Counts.{Counts};
 ghost use Rattle.panel_file.specs.declared.Record.{Record};
 ghost use Rattle.panel_file.specs.File.{records};
 ghost use Rattle.report_lines.specs.declared.Line.{Line};
-ghost use Rattle.report_lines.specs.Line.{Added, newline, number_then, line_of};
+ghost use Rattle.report_lines.specs.Line.{Added, newline, verdict_text, number_then, line_of};
 ghost use Rattle.report_lines.specs.Text.{text_of, Over};
 ghost use Rattle.report_lines.specs.Records.{none_before, lines_at, lines_by};
 
+use consistency::Verdict;
 use panel_file::{Broken, Counts, PanelFile, Record};
 
 /// One line of a report. A refusal stays a number: the definitions (`Outcome`, `Answer`) know it by its number alone,
@@ -28,10 +29,8 @@ pub enum Line {
     Nowhere,
     /// A good file ends.
     End,
-    /// The index of a button whose outline and touch area are consistent.
-    Consistent(usize),
-    /// The index of a button whose outline and touch area are not.
-    Apart(usize),
+    /// A button's index, and the verdict on its outline and touch area.
+    Inspected(usize, Verdict),
     /// A broken file: the refusal's number and the offset.
     Broken(usize, usize),
 }
@@ -87,6 +86,21 @@ fn shape_line(out: &mut [u8; 72], index: usize, verbs: usize, points: usize) -> 
     number(out, c, points, b"\n")
 }
 
+// What is said of a shape behind its index.
+fn verdict_text(verdict: Verdict) -> &'static [u8]
+    ensures upper_bound { length result.now ≤ 46 }
+    ensures value { result.now ≡ verdict_text verdict }
+{
+    match verdict {
+        Verdict::Consistent => b" ok\n",
+        Verdict::CenterOutside => b" parts company: a center lies outside\n",
+        Verdict::MiddleOutside => b" parts company: its middle is not inside\n",
+        Verdict::SidesSmall => b" parts company: its sides are too small\n",
+        Verdict::CornerOval => b" parts company: a corner is too oval\n",
+        Verdict::OutlineOutside => b" parts company: its outline leaves the bounds\n",
+    }
+}
+
 // The line's text, at the start of out; the answer is its length. No `Display`: its clause speaks where `fmt`
 // answers Ok, and nothing says that it does, so that a text made by it is known as the line or as cut.
 #[tactic(auto, unfolding(crate::specs::Line::line_of))]
@@ -100,8 +114,7 @@ fn text_of(line: Line, out: &mut [u8; 72]) -> usize
         Line::Touch(index) => one_number(out, b"touch ", index, b"\n"),
         Line::Nowhere => word(out, 0, b"touch none\n"),
         Line::End => word(out, 0, b"end\n"),
-        Line::Consistent(index) => one_number(out, b"shape ", index, b" ok\n"),
-        Line::Apart(index) => one_number(out, b"shape ", index, b" parts company\n"),
+        Line::Inspected(index, verdict) => one_number(out, b"shape ", index, verdict_text(verdict)),
         Line::Broken(cause, offset) => two_numbers(out, b"refused ", cause, b" at ", offset),
     }
 }

@@ -46,8 +46,8 @@ pub extern "C" fn shackletongue_conic_need(
     ffi_outline::shackletongue_conic_need(counts, places, cx, cy, x, y, weight, need)
 }
 
-/// 1 where no center of the shape lies outside the bounds and every point of its outline is finite, else
-/// 0. The bounds are the first four of the floats that the shape was made of.
+/// 1 where outline and touch area of the shape are consistent, else 0. The bounds are the first four of
+/// the floats that the shape was made of.
 #[unsafe(no_mangle)]
 pub extern "C" fn shackletongue_is_consistent(sizes: &[f32], shape: &[f32]) -> u32
     ensures { result ≡ consistency_of sizes.now shape.now }

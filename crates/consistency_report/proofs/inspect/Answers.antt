@@ -7,19 +7,16 @@ use Rattle.report_lines.specs.declared.Line.TheVariants.{Broken}
 use Rattle.report_lines.specs.Line.{line_of}
 use Rattle.report_lines.specs.Text.{text_of}
 use Rattle.report_lines.proofs.Writing.{one_line, all_over}
-use Rattle.report_lines.specs.Records.{none_before, lines_by}
-use Rattle.consistency_report.specs.Findings.{finding_at, lines_of_answer, inspection_of}
-use Rattle.consistency_report.proofs.Finding.{findings_of-lines_by}
+use Rattle.consistency_report.specs.Findings.{findings_of, lines_of_answer, inspection_of}
 use Rattle.consistency_report.proofs.inspect.Goals as goal
 
 pub returns-in-Ok : goal.returns-in-Ok
 unfolding inspection_of lines_of_answer new_answer
 returns-in-Ok c =
-    let all = records c.in-Ok.file in
-    let e : text_of (inspection_of c.args.file.now) ≡ text_of (lines_by finding_at none_before all) =
-    ap (λ (x : Answer (List Record)). text_of (lines_of_answer x)) (sym c.in-Ok.ensures) ∙ ap text_of (findings_of-lines_by none_before all) in
-    let w = all_over _ _ _ _ c.put_records.ensures.over in
-    rw e (record { prefix_len = c.put_records.ensures.prefix_len; value = w.0; out_after = w.1 })
+    let e : text_of (inspection_of c.args.file.now) ≡ text_of (findings_of 0 (records c.in-Ok.file)) =
+    ap (λ (x : Answer (List Record)). text_of (lines_of_answer x)) (sym c.in-Ok.ensures) in
+    let w = all_over _ _ _ _ c.put_findings.ensures.over in
+    rw e (record { prefix_len = c.put_findings.ensures.prefix_len; value = w.0; out_after = w.1 })
 
 pub returns-in-Err : goal.returns-in-Err
 unfolding inspection_of lines_of_answer new_answer

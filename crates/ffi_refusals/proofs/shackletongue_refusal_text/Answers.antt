@@ -1,6 +1,5 @@
 -- `ffi_refusals::shackletongue_refusal_text` meets its contract. Assumes nothing.
-use Rattle.std.proofs.Common.{ℕ, List, ap, sym, ◌∙◌, Some, None}
-use Rattle.std.specs.Option.{option_map}
+use Rattle.std.proofs.Common.{ap, ◌∙◌, Some, None}
 use Rattle.ffi_refusals.specs.Texts.{text_left, padded, told}
 use Rattle.ffi_refusals.proofs.Numbers.{other_length, told_by}
 use Rattle.ffi_refusals.proofs.shackletongue_refusal_text.Goals as goal

@@ -1,7 +1,7 @@
 use Rattle.std.proofs.Common.{sym, ◌∙◌, arith}
-use Rattle.stream.proofs.Put.{put_nil, length-put}
+use Rattle.stream.proofs.Put.{put_nil}
 use Rattle.panel_file.specs.Bytes.{points_bytes}
-use Rattle.panel_file.proofs.Back.{length-points, point_put}
+use Rattle.panel_file.proofs.Back.{point_put}
 use Rattle.panel_file.proofs.writing.put_points.Goals as goal
 
 pub loop-p-init : goal.loop-p-init

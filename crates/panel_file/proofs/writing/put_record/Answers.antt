@@ -1,4 +1,4 @@
-use Rattle.std.proofs.Common.{sym, ◌∙◌, arith}
+use Rattle.std.proofs.Common.{sym, ◌∙◌}
 use Rattle.panel_file.proofs.Written.{placed, not_placed}
 use Rattle.panel_file.proofs.writing.put_record.Goals as goal
 
