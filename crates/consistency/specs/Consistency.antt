@@ -39,9 +39,9 @@ centers_within b s =
 unfoldable pub center_of : Bounds → Point
 center_of b = shrink_of (add_of b.min b.max) two
 
--- ---- Between neighbouring floats of a magnitude is a step, which is what rounding amounts to there. On an axis it is at
--- most 1/512 of the side where the magnitude is at most 16384 times it, and 1/4096 of the longer side where it is at most
--- 2048 times that.
+-- ---- Between neighbouring floats of a magnitude is a step, which is what rounding amounts to there. On an axis it is
+-- at most 1/512 of the side where the magnitude is at most 16384 times the side, and at most 1/4096 of the longer side
+-- where the magnitude is at most 2048 times that one.
 abbrev most_sides : Float
 most_sides = of_bits binary32 0x4680_0000  -- 16384.0
 
@@ -61,13 +61,13 @@ fine_beside_longer magnitudes sides =
 unfoldable pub reach_of : Bounds → Point
 reach_of b = point (max_of (abs_of b.min.x) (abs_of b.max.x)) (max_of (abs_of b.min.y) (abs_of b.max.y))
 
--- A corner is worked out with equal radii and stretched by its scale, and so are the steps of either side, onto the other
--- axis: they are those of these magnitudes there.
+-- A corner is worked out with equal radii and stretched by its scale, and so are the steps of either side, onto the
+-- other axis: there they are as long as those of these magnitudes.
 unfoldable pub stretched : Point → Point → Point
 stretched sides scale = point (sides.y ⊗ scale.x ⊘ scale.y) (sides.x ⊗ scale.y ⊘ scale.x)
 
--- The steps of coordinates and corner are fine beside the sides, and beside the longer side both together, the corner's four
--- times, since the curves fit an oval corner less well.
+-- The steps of coordinates and corner are fine beside the sides, and beside the longer side both together, the corner's
+-- four times, since the curves fit an oval corner less well.
 unfoldable pub fine_at : Bounds → Point → Bool
 fine_at b scale =
     let sides = sides_of b in
