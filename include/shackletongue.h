@@ -21,9 +21,9 @@
  *
  * THREADS. There is no global state: calls on different memory may run at the same time.
  *
- * STACK. What a call takes is bounded, whatever it is lent: shackletongue_touch_all takes under 64 KiB (most of it at
- * once), shackletongue_is_consistent under 32, what makes, draws or looks up a shape (shape, outline_need, add_to,
- * touch) under 8, and every other function under 1. bindings/c/stack.c measures it.
+ * STACK. What a call takes is bounded, whatever it is lent: shackletongue_touch_all takes under 64 KiB,
+ * shackletongue_is_consistent under 32, what makes, draws or looks up a shape (shape, outline_need, add_to, touch)
+ * under 8, and every other function under 1. bindings/c/stack.c measures it.
  *
  * FLOATS. Every operation is rounded once, to nearest, ties to even. The caller leaves the floating-point environment
  * as C sets it up:
