@@ -123,14 +123,20 @@ pub fn report(file: &[u8]) -> Vec<String> {
 /// Why outline and touch area may be apart, by the rule of docs/SPECIFICATION.md, "Consistency"; None where they are
 /// consistent.
 pub fn reason(bounds: &[f32], shape: &RoundSuperellipse) -> Option<&'static str> {
-    let (min, max) = (Vec2::new(bounds[0], bounds[1]), Vec2::new(bounds[2], bounds[3]));
+    let (min, max) = (
+        Vec2::new(bounds[0], bounds[1]),
+        Vec2::new(bounds[2], bounds[3]),
+    );
     let sides = max - min;
     let inside = |p: Vec2, by: Vec2| {
         let (low, high) = (min - by, max + by);
         low.x <= p.x && p.x <= high.x && low.y <= p.y && p.y <= high.y
     };
     let (quadrants, _) = shape_floats(shape);
-    if !quadrants.iter().all(|q| inside(Vec2::new(q[0], q[1]), Vec2::ZERO)) {
+    if !quadrants
+        .iter()
+        .all(|q| inside(Vec2::new(q[0], q[1]), Vec2::ZERO))
+    {
         return Some("a center lies outside");
     }
     if !shape.contains((min + max) / 2.0) {
@@ -154,7 +160,10 @@ pub fn reason(bounds: &[f32], shape: &RoundSuperellipse) -> Option<&'static str>
     if !quadrants.iter().all(|q| fine(q[2].abs(), q[3].abs())) {
         return Some("a corner is too oval");
     }
-    if !access::points(&outline(shape)).iter().all(|p| inside(*p, sides / 128.0)) {
+    if !access::points(&outline(shape))
+        .iter()
+        .all(|p| inside(*p, sides / 128.0))
+    {
         return Some("its outline leaves the bounds");
     }
     None
@@ -180,7 +189,9 @@ pub fn consistency_report(file: &[u8]) -> Vec<String> {
         Record::Button(button) => Some(button),
         Record::Touch(_) => None,
     });
-    let lines = buttons.enumerate().map(|(i, b)| format!("shape {i} {}", verdict(b)));
+    let lines = buttons
+        .enumerate()
+        .map(|(i, b)| format!("shape {i} {}", verdict(b)));
     lines.chain(["end".to_string()]).collect()
 }
 

@@ -143,7 +143,9 @@ impl Inputs {
             }
         }
         let (places, radii) = sizes.split_at_mut(4);
-        places.iter_mut().for_each(|x| *x = x.clamp(-16384.0, 16384.0));
+        places
+            .iter_mut()
+            .for_each(|x| *x = x.clamp(-16384.0, 16384.0));
         radii.iter_mut().for_each(|x| *x = x.clamp(0.0, 16384.0));
         sizes
     }
