@@ -70,7 +70,8 @@ impl<'a> PanelFile<'a> {
     pub fn button_at(&self, offset: u16) -> Option<Button>
         ensures { result ≡ button_at_offset self.now offset }
     {
-        let Ok(Some((Record::Button(button), _))) = record_at(self.bytes, usize::from(offset)) else {
+        let Ok(Some((Record::Button(button), _))) = record_at(self.bytes, usize::from(offset))
+        else {
             return None;
         };
         Some(button)

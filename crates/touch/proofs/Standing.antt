@@ -26,10 +26,10 @@ module _ (read : ℕ → Option Button) (bs : List Button) (n : ℕ) (offsets : 
   button_read i b l q =
       let c = counted in
       let stands : Some b ≡ Some (get_or bs i b) =
-        sym q ∙ ap read (sym (get_or-take n offsets i 0 l))
-        ∙ sym (get_or-map read (take n offsets) i 0 None (omega (arith, length-take-le n offsets h)))
-        ∙ ap (λ (found : List (Option Button)). get_or found i None) e
-        ∙ get_or-map Some bs i b None (omega arith) in
+      sym q ∙ ap read (sym (get_or-take n offsets i 0 l))
+      ∙ sym (get_or-map read (take n offsets) i 0 None (omega (arith, length-take-le n offsets h)))
+      ∙ ap (λ (found : List (Option Button)). get_or found i None) e
+      ∙ get_or-map Some bs i b None (omega arith) in
       let same : get_or bs i b ≡ b = cc in
       get_or-map shape_of bs i b (refused 0) (omega arith) ∙ ap shape_of same
 

@@ -207,5 +207,4 @@ pub fn touch_all(file: &[u8], results: &mut [u32; 5461]) -> Result<usize, Broken
 pub fn the_top_button_takes_the_touch()
     ensures last { GoesToTheLast }
     ensures nowhere { GoesNowhereIfLeft }
-{
-}
+{}
