@@ -282,8 +282,8 @@ uint32_t shackletongue_put_record(uint8_t *file, size_t file_len,          /* an
 #define SHACKLETONGUE_NOWHERE 0xffffffffu
 
 /*
- * Which button a touch at (x, y) goes to: the first in file order that contains it. Buttons count from 0; those whose
- * shape is refused count too, but contain nothing. Returns 0, 7, 100, or 101 if it goes nowhere.
+ * Which button a touch at (x, y) goes to: the last in file order that contains it, since later buttons lie on top.
+ * Buttons count from 0; those whose shape is refused count too, but contain nothing. Returns 0, 7, 100, or 101 if it goes nowhere.
  */
 uint32_t shackletongue_touch(const uint8_t *file, size_t file_len, /* any */
                              float x, float y,

@@ -454,6 +454,7 @@ fn touches() {
     let anywhere = panel_files::largest();
     all_touches("anywhere", &anywhere);
     all_touches("by rows", &by_rows(&anywhere));
+    all_touches("shapes overlap", &panel_files::overlapping());
 }
 
 pub fn run(names: &[&str]) {

@@ -6,6 +6,7 @@
 //!        oracle fascia-native    the same on the platform's functions, for comparison of speed
 //!        oracle inspect          of each shape of the panel file whether it is consistent
 //!        oracle largest-panel    a panel file of 630 shapes and 2,730 touches
+//!        oracle overlapping-panel    the same, the shapes one over the other
 
 use std::io::{self, BufRead, Read, Write};
 
@@ -71,9 +72,10 @@ fn main() -> io::Result<()> {
         ["fascia-native"] => print_lines(&mut out, native::panel::report(&input()?)),
         ["inspect"] => print_lines(&mut out, panel::consistency_report(&input()?)),
         ["largest-panel"] => out.write_all(&panel_files::largest()),
+        ["overlapping-panel"] => out.write_all(&panel_files::overlapping()),
         _ => {
             eprintln!("usage: oracle list KIND | answer KIND");
-            eprintln!("       oracle fascia | fascia-native | inspect | largest-panel");
+            eprintln!("       oracle fascia | fascia-native | inspect | largest-panel | overlapping-panel");
             eprintln!("KIND is floats, shapes, paths or panels");
             std::process::exit(2);
         }

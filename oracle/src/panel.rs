@@ -60,7 +60,7 @@ pub fn records(file: &[u8]) -> Result<Vec<Record>, usize> {
     Ok(list)
 }
 
-/// Where each touch goes: each shape is made once.
+/// Where each touch goes: to the last shape that contains it. Each shape is made once.
 pub fn places(records: &[Record]) -> Vec<Option<usize>> {
     let shapes = records.iter().filter_map(|r| match r {
         Record::Button(button) => Some(&button.shape),
@@ -69,7 +69,7 @@ pub fn places(records: &[Record]) -> Vec<Option<usize>> {
     let shapes: Vec<_> = shapes.collect();
     let place = |p: Vec2| {
         let takes = |s: &&Result<RoundSuperellipse, Refusal>| matches!(s, Ok(s) if s.contains(p));
-        shapes.iter().position(takes)
+        shapes.iter().rposition(takes)
     };
     let touches = records.iter().filter_map(|r| match r {
         Record::Touch(p) => Some(place(*p)),

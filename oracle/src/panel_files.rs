@@ -124,10 +124,43 @@ fn overlaps(list: &mut List) {
     outwards.extend(touches);
     list.file(&inwards);
     list.file(&outwards);
-    list.heading("the same shape 40 times");
+    list.heading("the same shape 40 times, and twice");
     list.many(1, &touch(5.0, 5.0));
     list.many(40, &button(&square()));
     list.report();
+    list.file(&[button(&square()), button(&square()), touch(5.0, 5.0)]);
+    list.heading(
+        "two shapes partly one over the other, in both orders, the touches first, between or last",
+    );
+    let (a, b) = (
+        button(&square()),
+        button(&uniform([5.0; 2], [15.0; 2], [2.0; 2])),
+    );
+    let touches = [2.0, 7.0, 12.0, 5.1, 16.0].map(|x| touch(x, x));
+    for (under, over) in [(&a, &b), (&b, &a)] {
+        for at in 0..=2 {
+            let mut records = vec![under.clone(), over.clone()];
+            records.splice(at..at, touches.clone());
+            list.file(&records);
+        }
+    }
+    list.heading(
+        "a small shape over a large one and under it, refused ones over, between and under them",
+    );
+    let (large, small) = (
+        button(&rounded()),
+        button(&uniform([30.0, 5.0], [50.0, 15.0], [4.0; 2])),
+    );
+    let bad = button(&uniform([30.0, 5.0], [50.0, 4.0], [4.0; 2]));
+    let touches = [40.0, 22.0, 58.0].map(|x| touch(x, 10.0));
+    for (under, over) in [(&large, &small), (&small, &large)] {
+        for refused in 0..=2 {
+            let mut records = vec![under.clone(), over.clone()];
+            records.insert(refused, bad.clone());
+            records.extend(touches.clone());
+            list.file(&records);
+        }
+    }
 }
 
 fn refusals(list: &mut List) {
@@ -329,22 +362,32 @@ pub fn lines() -> Vec<String> {
     list.0
 }
 
-/// The largest mixed file: 630 shapes, 2,730 touches.
+/// The largest mixed file: 630 shapes side by side, 2,730 touches.
 pub fn largest() -> Vec<u8> {
+    mixed(50.0, 40.0, 1550.0)
+}
+
+/// As many of each, the shapes one over the other: most touches lie on hundreds.
+pub fn overlapping() -> Vec<u8> {
+    mixed(10.0, 200.0, 550.0)
+}
+
+/// Square shapes of this side, so far apart, and touches as far as that.
+fn mixed(apart: f32, side: f32, far: f64) -> Vec<u8> {
     let mut random = Random(0xb16_f11e);
     let mut bytes = Vec::new();
     for i in 0..630 {
-        let (x, y) = ((i % 30) as f32 * 50.0, (i / 30) as f32 * 50.0);
+        let (x, y) = ((i % 30) as f32 * apart, (i / 30) as f32 * apart);
         let mut radius = || [(); 2].map(|()| random.within(0.0, 20.0) as f32);
         let radii = if i % 2 == 0 {
             [radius(); 4]
         } else {
             [(); 4].map(|()| radius())
         };
-        bytes.extend(button(&cornered([x, y], [x + 40.0, y + 40.0], radii)).bytes());
+        bytes.extend(button(&cornered([x, y], [x + side, y + side], radii)).bytes());
         let touches = if i % 3 == 0 { 5 } else { 4 };
         for _ in 0..touches {
-            let mut at = || random.within(-50.0, 1550.0) as f32;
+            let mut at = || random.within(-50.0, far) as f32;
             bytes.extend(touch(at(), at()).bytes());
         }
     }

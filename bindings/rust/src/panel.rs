@@ -97,8 +97,8 @@ impl<'a> Panel<'a> {
         })
     }
 
-    /// The index of the first button that contains the point; one whose shape is refused contains
-    /// nothing.
+    /// The index of the button on top, the last in file order, of those that contain the point; one
+    /// whose shape is refused contains nothing.
     #[must_use]
     pub fn touch(&self, point: impl Into<Point>) -> Option<usize> {
         let point = point.into();

@@ -443,10 +443,11 @@ fn files_of_any_bytes_are_answered() {
         assert_eq!(all.len(), panel.touches().count());
         for (point, found) in panel.touches().zip(all) {
             assert_eq!(panel.touch(point), found);
-            let first = panel
-                .buttons()
-                .position(|b| b.shape().is_ok_and(|s| s.contains(point)));
-            assert_eq!(found, first);
+            let buttons: Vec<_> = panel.buttons().collect();
+            let top = buttons
+                .iter()
+                .rposition(|b| b.shape().is_ok_and(|s| s.contains(point)));
+            assert_eq!(found, top);
         }
         let _ = panel.touch(random.point());
     }

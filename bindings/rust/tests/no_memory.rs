@@ -143,5 +143,6 @@ fn panels_answer_no_room() {
     assert!(refused > 0);
     let read = Panel::new(panel.as_bytes()).unwrap();
     assert!(scarcer(|| read.touch_all()) > 0);
-    assert_eq!(with(0, || read.touch((50.0, 30.0))), Some(0));
+    let top = read.buttons().count().checked_sub(1);
+    assert_eq!(with(0, || read.touch((50.0, 30.0))), top);
 }

@@ -24,5 +24,5 @@ const ABOUT: &str =
     is refused, and of each touch to which button it goes.";
 
 fn main(rt: HostRuntime) -> ExitCode {
-    panel_program::start::<_, Fascia>(&rt, "fascia", ABOUT)
+    command_line::start::<_, Fascia>(&rt, "fascia", ABOUT)
 }

@@ -138,7 +138,7 @@ pub fn written_records_are_read()
     ensures { WrittenIsRead }
 {}
 
-/// The index of the first button that contains the point goes to place[0]. 101 where the touch goes
+/// The index of the last button that contains the point, which lies on top, goes to place[0]. 101 where the touch goes
 /// nowhere; with a 7, place[0] is the offset of the first broken record.
 pub fn shackletongue_touch(file: &[u8], x: f32, y: f32, place: &mut [u64]) -> u32
     ensures { place_left result place.new ≡ place_of_touch file.now (point x y) place.old }

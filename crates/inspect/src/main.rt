@@ -25,5 +25,5 @@ const ABOUT: &str =
     its shape is refused. Ask before you cut.";
 
 fn main(rt: HostRuntime) -> ExitCode {
-    panel_program::start::<_, Inspect>(&rt, "inspect", ABOUT)
+    command_line::start::<_, Inspect>(&rt, "inspect", ABOUT)
 }

@@ -33,7 +33,7 @@ module _ (file : List ℕ) (at : ℕ) (a : Result (Option (Record × ℕ)) Broke
   following = records_follow file at ∙ ap (record_and_rest (records_from file)) (sym e)
 
   module _ (r : Record) (next : ℕ) (q : a ≡ Ok (Some (r, next))) where
-    entered : record_at file at ≡ done (entry r next)
+    pub entered : record_at file at ≡ done (entry r next)
     unfolding record_answer
     entered = sym e ∙ ap record_answer q
 

@@ -1,9 +1,12 @@
 //! A panel file that is known to be good, and its records one by one.
 
-ghost use Rattle.std.specs.Prelude.{◌≡◌, true, ◌≤◌, length};
-ghost use Rattle.panel_file.specs.Panel.{records_of, records_from, records_in, is_done, counts_of};
+ghost use Rattle.std.specs.Prelude.{◌≡◌, true, ◌≤◌, Some, length, map, take};
+ghost use Rattle.panel_file.specs.Panel.{records_of, records_from, records_in, is_done, counts_of, buttons_of};
 
-use crate::{Broken, Counts, Record, check, record_at};
+use crate::{Broken, Button, Counts, Record, check, record_at};
+
+/// The most buttons that a file of 65,536 bytes holds.
+pub const MOST_BUTTONS: usize = 1260;
 
 /// The bytes of a file that was checked.
 #[derive(Clone, Copy)]
@@ -15,7 +18,7 @@ pub struct PanelFile<'a> {
 }
 
 impl<'a> PanelFile<'a> {
-    ghost use Rattle.panel_file.specs.File.{records, new_answer, records_left};
+    ghost use Rattle.panel_file.specs.File.{records, new_answer, records_left, button_at_offset};
 
     /// The bytes as a panel file, if they are a good one.
     pub fn new(bytes: &'a [u8]) -> Result<PanelFile<'a>, Broken>
@@ -42,6 +45,36 @@ impl<'a> PanelFile<'a> {
             bytes: self.bytes,
             at: 0,
         }
+    }
+
+    /// Where the buttons' records start, in file order, at the front of `offsets`; the answer counts them.
+    pub fn button_offsets(&self, offsets: &mut [u16; 1260]) -> usize
+        ensures most { result ≤ 1260 }
+        ensures buttons { map (button_at_offset self.now) (take result offsets.new)
+            ≡ map Some (buttons_of (records self.now)) }
+    {
+        let mut at = 0;
+        let mut n = 0;
+        while let Ok(Some((record, next))) = record_at(self.bytes, at) {
+            if let Record::Button(_) = record {
+                offsets[n] = at as u16;
+                n += 1;
+            }
+            at = next;
+        }
+        n
+    }
+
+    /// The button whose record starts at an offset, if one does.
+    #[tactic(auto, unfolding(crate::specs::File::button_at_offset, crate::specs::File::button_in, crate::specs::Panel::record_answer))]
+    pub fn button_at(&self, offset: u16) -> Option<Button>
+        ensures { result ≡ button_at_offset self.now offset }
+    {
+        let Ok(Some((Record::Button(button), _))) = record_at(self.bytes, usize::from(offset))
+        else {
+            return None;
+        };
+        Some(button)
     }
 }
 

@@ -7,7 +7,7 @@ ghost use Rattle.std.specs.Prelude.{◌≡◌, ◌++◌, ◌+◌, ◌<◌, ◌�
 ghost use Rattle.panel_file.specs.Bytes.{u16_at, u32_at, f32_at, point_at};
 ghost use Rattle.panel_file.specs.Panel.{no_kind_text, broken_number, broken_text, at_text, kind_number, kind_of, fields_of, payload_of, button_at, head_at, record_at, record_answer, records_of, on_done, counts_of, counts_with, kind_of_record, check_answer};
 
-pub use file::{PanelFile, Records};
+pub use file::{MOST_BUTTONS, PanelFile, Records};
 use geometry::Point;
 use std::error::Error;
 use std::fmt;

@@ -11,13 +11,10 @@ ghost use Rattle.io.specs.Counts.{IsPrefixLen};
 ghost use Rattle.panel_program.specs.declared.RunError.TheVariants.{Memory};
 ghost use Rattle.panel_program.specs.Running.{verdict_of, NothingWritten, status_of};
 
-pub use command_line::start;
 use panel_file::PanelFile;
 use std::alloc::{AllocError, Global};
 use std::io;
 use std::io::{Read, Write};
-
-mod command_line;
 
 /// What a program says of a file.
 pub trait Report {

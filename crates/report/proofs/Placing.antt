@@ -12,7 +12,7 @@ use Rattle.panel_file.specs.declared.Record.{Record}
 use Rattle.panel_file.specs.declared.Record.TheVariants.{Button as ButtonRecord, Touch as TouchRecord}
 use Rattle.panel_file.specs.Panel.{touches_of, counts_with, kind_of_record}
 use Rattle.touch.specs.Touch.{Place, nowhere_code, code_of, place_of, shapes_of, place_among, places_of}
-use Rattle.touch.proofs.Marking.{at_none, place_code, place_from-below}
+use Rattle.touch.proofs.Marking.{place_code, place_from-below}
 use Rattle.touch.proofs.Answering.{few_shapes}
 use Rattle.report_lines.specs.declared.Line.TheVariants.{End}
 use Rattle.report_lines.specs.Line.{line_of}
@@ -26,7 +26,7 @@ place-decoded : (rs : List Record) → length rs ≤ 5461 → (p : Point) → pl
 unfolding place_among
 place-decoded rs few p =
     let shapes = few_shapes rs few in
-    place_code (place_from-below p {n = nowhere_code} 0 (shapes_of rs) at_none (omega arith))
+    place_code (place_from-below p {n = nowhere_code} 0 (shapes_of rs) (omega arith))
 
 -- what `places` leaves
 pub all_placed : (rs : List Record) (k : ℕ) (results place_codes : List ℕ) → place_codes ≡ places_of rs ++ drop k results → k ≡ length (touches_of rs) → HoldsPlaces rs place_codes 0 rs

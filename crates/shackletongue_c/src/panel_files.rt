@@ -28,7 +28,7 @@ pub extern "C" fn shackletongue_put_record(
     ffi_panel::shackletongue_put_record(file, place, floats)
 }
 
-/// The index of the first button that contains the point goes to place[0]. 101 where the touch goes
+/// The index of the last button that contains the point, which lies on top, goes to place[0]. 101 where the touch goes
 /// nowhere; with a 7, place[0] is the offset of the first broken record.
 #[unsafe(no_mangle)]
 pub extern "C" fn shackletongue_touch(file: &[u8], x: f32, y: f32, place: &mut [u64]) -> u32

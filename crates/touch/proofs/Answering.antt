@@ -10,9 +10,9 @@ use Rattle.geometry.specs.declared.Point.{Point}
 use Rattle.panel_file.specs.declared.Record.{Record}
 use Rattle.panel_file.specs.Panel.{buttons_of, touches_of}
 use Rattle.panel_file.proofs.Walking.{count_all}
-use Rattle.touch.specs.Touch.{nowhere, nowhere_code, code_of, place_of, place_from, shape_of, shapes_of, place_among, places_of}
+use Rattle.touch.specs.Touch.{nowhere_code, code_of, place_of, place_from, shape_of, shapes_of, place_among, places_of}
 use Rattle.touch.specs.Search.{floats_of, points_in, places_after_shapes}
-use Rattle.touch.proofs.Marking.{Below, at_none, place_from-below, code_most, place_code, places_after_shapes-places}
+use Rattle.touch.proofs.Marking.{Below, place_from-below, code_most, place_code, places_after_shapes-places}
 use Rattle.touch.proofs.Gathering.{points-floats}
 
 module _ (rs : List Record) (few : length rs ≤ 5461) where
@@ -42,5 +42,5 @@ module _ (rs : List Record) (few : length rs ≤ 5461) where
   answered-one p found f =
       let code : get_or found 0 0 ≡ code_of (place_among rs p) = ap (λ (ns : List ℕ). get_or ns 0 0) (f ∙ places_after_shapes-places (p ∷ []) (shapes_of rs) few_shapes) in
       let few = few_shapes in
-      let below : Below nowhere_code (place_from p nowhere 0 (shapes_of rs)) = place_from-below p 0 (shapes_of rs) at_none (omega arith) in
+      let below : Below nowhere_code (place_from p 0 (shapes_of rs)) = place_from-below p 0 (shapes_of rs) (omega arith) in
       (omega (arith, code_most below), ap place_of code ∙ place_code below)

@@ -35,21 +35,21 @@ pub data Place : Type 0 where
   button : ℕ → Place
   nowhere : Place
 
--- Where a touch goes after the button of index k: the first button that takes it keeps it, and what was found stays.
--- This definition alone chooses among the buttons that take a touch.
-unfoldable pub first_hit : Place → ℕ → Bool → Place
-first_hit (button i) k b = button i
-first_hit nowhere k true = button k
-first_hit nowhere k false = nowhere
+-- Where a touch goes at the button of index k, after what was found on top of it: a button on top keeps the touch. This
+-- definition alone chooses among the buttons that take a touch.
+unfoldable pub top_hit : Place → ℕ → Bool → Place
+top_hit (button i) k b = button i
+top_hit nowhere k true = button k
+top_hit nowhere k false = nowhere
 
--- where a touch goes among the shapes from index k on, after what was found before them
-unfoldable pub place_from : Point → Place → ℕ → List ShapeOutcome → Place
-place_from p found k [] = found
-place_from p found k (s ∷ ss) = place_from p (first_hit found k (takes s p)) (suc k) ss
+-- where a touch goes among the shapes from index k on: those behind a shape in file order lie on top of it
+unfoldable pub place_from : Point → ℕ → List ShapeOutcome → Place
+place_from p k [] = nowhere
+place_from p k (s ∷ ss) = top_hit (place_from p (suc k) ss) k (takes s p)
 
 -- where a touch goes among a file's records, wherever among them the touch stands
 unfoldable pub place_among : List Record → Point → Place
-place_among rs p = place_from p nowhere 0 (shapes_of rs)
+place_among rs p = place_from p 0 (shapes_of rs)
 
 unfoldable pub touch_of : List ℕ → Point → Answer Place
 touch_of file p = on_done (λ rs. place_among rs p) (records_of file)

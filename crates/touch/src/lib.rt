@@ -9,12 +9,13 @@ ghost use Rattle.containment.specs.Contains.{contains_of};
 ghost use Rattle.containment.specs.QuickReject.{is_surely_outside};
 ghost use Rattle.panel_file.specs.Panel.{touches_of};
 ghost use Rattle.panel_file.specs.File.{records};
-ghost use Rattle.touch.specs.Touch.{code_of, place_of, first_hit, shape_of, shapes_of, takes, place_among, place_of_index, touch_answer, touch_of, results_left, count_answer, places_of, touch_all_of};
-ghost use Rattle.touch.specs.Search.{points_in, places_after_shape, places_after_shapes, index_after_record, places_after_record, floats_of, count_after_record, floats_after_record};
+ghost use Rattle.touch.specs.Touch.{code_of, place_of, top_hit, shape_of, shapes_of, takes, place_among, place_of_index, touch_answer, touch_of, results_left, count_answer, places_of, touch_all_of};
+ghost use Rattle.touch.specs.Search.{points_in, places_after_shape, places_after_shapes, floats_of, count_after_record, floats_after_record};
+ghost use Rattle.touch.specs.Laws.{GoesToTheLast, GoesNowhereIfLeft};
 
 use containment::{QuickReject, contains};
 use geometry::Point;
-use panel_file::{Broken, Button, PanelFile, Record};
+use panel_file::{Broken, Button, MOST_BUTTONS, PanelFile, Record};
 use shape::{Bounds, CornerRadii, RoundSuperellipse, ShapeError};
 
 /// The most touches that a file of 65,536 bytes holds. Arrays of the largest size and no Vec: the library has no heap.
@@ -59,12 +60,12 @@ fn nearest(same: bool, center: Point, p: Point) -> usize
     2 * usize::from(p.x < center.x) + usize::from(p.y >= center.y)
 }
 
-// Where a touch goes after one shape more: the first button that contains it keeps it. Of nearly every touch that lies
-// outside, the arcs of one corner show it. This and the definition of its name alone choose the button.
-#[tactic(auto, unfolding(crate::specs::Touch::code_of, crate::specs::Touch::place_of, crate::specs::Touch::first_hit))]
-fn first_hit(found: u32, index: u32, shape: RoundSuperellipse, arcs: QuickReject, p: Point) -> u32
+// Where a touch goes at a shape, after those on top of it: a button on top keeps the touch. Of nearly every touch that
+// lies outside, the arcs of one corner show it. This and the definition of its name alone choose the button.
+#[tactic(auto, unfolding(crate::specs::Touch::code_of, crate::specs::Touch::place_of, crate::specs::Touch::top_hit))]
+fn top_hit(found: u32, index: u32, shape: RoundSuperellipse, arcs: QuickReject, p: Point) -> u32
     requires { is_surely_outside arcs shape.all_corners_same p ≡ true → contains_of shape p ≡ false }
-    ensures { result ≡ code_of (first_hit (place_of found) index (contains_of shape p)) }
+    ensures { result ≡ code_of (top_hit (place_of found) index (contains_of shape p)) }
 {
     if found != NOWHERE {
         return found;
@@ -94,54 +95,37 @@ fn try_shape(shape: RoundSuperellipse, index: u32, points: &[f32], results: &mut
             y: points[2 * i + 1],
         };
         let near = arcs[nearest(same, first.offset, p)];
-        *found = first_hit(*found, index, shape, near, p);
+        *found = top_hit(*found, index, shape, near, p);
     }
 }
 
-// One button against every touch, by what making its shape answered: a refused shape takes none, but counts.
-// The answer is the next index.
-fn try_button(
-    made: Result<RoundSuperellipse, ShapeError>,
-    index: u32,
-    points: &[f32],
-    results: &mut [u32],
-) -> u32
-    requires index { index < 65536 }
-    requires points { length points.now ≡ 2 * length results.old }
-    ensures value { result ≡ index + 1 }
-    ensures results_after { results.new
-        ≡ places_after_shape (takes (shape_outcome_of made)) index (points_in points.now) results.old }
+// One button against every touch; a refused shape takes none. Where every touch has its button no shape is made.
+fn try_button(button: Button, index: u32, points: &[f32], results: &mut [u32])
+    requires { length points.now ≡ 2 * length results.old }
+    ensures { results.new
+        ≡ places_after_shape (takes (shape_of button)) index (points_in points.now) results.old }
 {
-    if let Ok(shape) = made {
+    if !results.contains(&NOWHERE) {
+        return;
+    }
+    if let Ok(shape) = shape_of(button) {
         try_shape(shape, index, points, results);
     }
-    index + 1
 }
 
-// One record against every touch; the answer is the next button's index.
-#[tactic(auto, unfolding(crate::specs::Search::index_after_record, crate::specs::Search::places_after_record))]
-fn try_record(record: Record, index: u32, points: &[f32], results: &mut [u32]) -> u32
-    requires index { index < 65536 }
-    requires points { length points.now ≡ 2 * length results.old }
-    ensures value { result ≡ index_after_record «record» index }
-    ensures results_after { results.new
-        ≡ places_after_record «record» index (points_in points.now) results.old }
-{
-    match record {
-        Record::Button(button) => try_button(shape_of(button), index, points, results),
-        Record::Touch(_) => index,
-    }
-}
-
-// Every button of a good file against every touch: each shape is made once.
+// Every button of a good file against every touch, the last first, since it lies on top: so a touch that has a button
+// is left alone. Each shape is made once.
 fn search(file: &PanelFile, points: &[f32], results: &mut [u32])
     requires { length points.now ≡ 2 * length results.old }
     ensures { results.new
         ≡ places_after_shapes (points_in points.now) 0 (shapes_of (records file.now)) results.old }
 {
-    let mut index = 0;
-    for record in file.records() {
-        index = try_record(record, index, points, results);
+    let mut offsets = [0u16; MOST_BUTTONS];
+    let n = file.button_offsets(&mut offsets);
+    for i in (0..n).rev() {
+        if let Some(button) = file.button_at(offsets[i]) {
+            try_button(button, i as u32, points, results);
+        }
     }
 }
 
@@ -218,3 +202,9 @@ pub fn touch_all(file: &[u8], results: &mut [u32; 5461]) -> Result<usize, Broken
     let file = PanelFile::new(file)?;
     Ok(places(&file, results))
 }
+
+/// A touch goes to the last button in file order that takes it, and nowhere only where none does.
+pub fn the_top_button_takes_the_touch()
+    ensures last { GoesToTheLast }
+    ensures nowhere { GoesNowhereIfLeft }
+{}

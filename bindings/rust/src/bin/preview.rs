@@ -200,7 +200,7 @@ fn escaped(text: &str) -> String {
         .replace('>', "&gt;")
 }
 
-/// The outlines, the first on top: a touch goes to what is seen there.
+/// The outlines, the last on top: a touch goes to what is seen there.
 fn outlines(svg: &mut String, scene: &Scene, page: &Page) -> std::fmt::Result {
     writeln!(
         svg,
@@ -210,7 +210,7 @@ fn outlines(svg: &mut String, scene: &Scene, page: &Page) -> std::fmt::Result {
         page.scale,
         1.6 / page.scale
     )?;
-    for d in scene.drawings.iter().rev() {
+    for d in &scene.drawings {
         let (fill, stroke) = if d.consistent {
             (colour(d.index, 0.6, 0.82), colour(d.index, 0.6, 0.3))
         } else {
@@ -339,7 +339,7 @@ fn legend(scene: &Scene, page: &Page) -> Result<Legend, std::fmt::Error> {
         scene.touches.len()
     );
     legend.line("entry", "#000000", &counts)?;
-    legend.line("entry", NOWHERE, "earlier buttons lie on top")?;
+    legend.line("entry", NOWHERE, "later buttons lie on top")?;
     let touches = scene.touches.iter().enumerate().map(|(number, (p, to))| {
         let whither = to.map_or("none".to_string(), |index| format!("button {index}"));
         let text = format!("t{number} at ({}, {}) → {whither}", p.x, p.y);

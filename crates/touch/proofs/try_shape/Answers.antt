@@ -15,8 +15,8 @@ pub loop-i-init : goal.loop-i-init
 unfolding places_after_shape
 loop-i-init c = (refl, refl)
 
-pub first_hit-requires : goal.first_hit-requires
-first_hit-requires c =
+pub top_hit-requires : goal.top_hit-requires
+top_hit-requires c =
     let near = c.nearest.ensures in
     shape-beyond c.args.shape _ _ _ _ c.quick_rejects-arcs.ensures near.corner near.first
 
@@ -26,7 +26,7 @@ loop-i-preserved c =
     let loop = c.loop-i in
     let within : loop.i < length a.results.now = omega (arith, loop.invariant.0) in (
       simp length-set loop.invariant.0,
-      rw (c.first_hit.ensures, loop.invariant.1) (places_after_shape-floats (contains_of a.shape) a.index a.points.now a.results.now loop.i nan c.requires within),
+      rw (c.top_hit.ensures, loop.invariant.1) (places_after_shape-floats (contains_of a.shape) a.index a.points.now a.results.now loop.i nan c.requires within),
     )
 
 pub returns : goal.returns

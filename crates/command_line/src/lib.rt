@@ -1,13 +1,15 @@
-//! The command line of a program: the file that it names, help and the version, and what is said on standard error where
-//! nothing is reported.
+//! The command line of `fascia` and `inspect`: the file that it names, help and the version, and what is said on standard
+//! error where nothing is reported. A crate of its own, so that the tests and edits of panel_program do without clap.
+
+#![tactic(auto)]
 
 ghost use Rattle.std.specs.Prelude.{◌≡◌, ◌≤◌};
 ghost use Rattle.std.specs.Process.{exit_status};
 
-use crate::{Report, RunError, Verdict, run, status_of};
 use clap::builder::ValueParser;
 use clap::error::ErrorKind as WordsErrorKind;
 use clap::{Arg, ArgMatches, Command, Error};
+use panel_program::{Report, RunError, Verdict, run, status_of};
 use std::alloc::{AllocError, Global};
 use std::env::Env;
 use std::fs::{File, Files};
@@ -84,7 +86,7 @@ impl fmt::Display for FileName<'_> {
 }
 
 // Says on standard error why nothing is reported, and answers the exit status, which says it where nobody reads.
-#[tactic(auto, unfolding(crate::specs::Running::status_of))]
+#[tactic(auto, unfolding(panel_program::specs::Running::status_of))]
 fn fail(rt: &impl Eprint, name: &str, file: &str, error: RunError) -> u8
     ensures { result ≡ 3 }
 {
