@@ -1,2 +1,3 @@
 -- Laws of reading into lent numbers.
 pub mod Answers
+mod Parts

@@ -35,12 +35,15 @@ fn kind_of(s: Segment) -> u64
     }
 }
 
-// The floats that a segment consumes, to the first of the lent ones.
+// The floats that a segment consumes, to the first of the lent ones. One by one: they are few, and `copy_from_slice`
+// would need a memmove from outside.
 fn store_part(segment: &mut [f32], part: &[f32])
     requires { length part.now ≤ length segment.old }
     ensures { segment.new ≡ put segment.old 0 part.now }
 {
-    segment[..part.len()].copy_from_slice(part);
+    for (i, x) in part.iter().enumerate() {
+        segment[i] = *x;
+    }
 }
 
 fn store_cursor(cursor: &mut [u64], next: Cursor, kind: u64)
@@ -102,9 +105,8 @@ pub fn shackletongue_read(
         return WRONG_LENGTH;
     };
     let at = cursor_at(cursor);
-    let part = reader::read_points(b, verbs, points, at);
+    let (reading, part) = reader::read_both(b, verbs, points, at);
     store_part(segment, part);
-    let reading = reader::read(b, verbs, points, at);
     store_reading(cursor, reading)
 }
 

@@ -31,14 +31,16 @@ fn text_of(number: u32) -> Option<&'static str>
     }
 }
 
-// A text to the front of the bytes, and zeros behind it.
+// A text to the front of the bytes, and zeros behind it. Byte by byte: `copy_from_slice` would need a memmove from
+// outside.
 fn put_text(bytes: &mut [u8], text: &[u8])
     requires len { length bytes.old ≡ 64 }
     requires room { length text.now ≤ 64 }
     ensures { bytes.new ≡ padded text.now }
 {
-    bytes[..text.len()].copy_from_slice(text);
-    bytes[text.len()..].fill(0);
+    for (i, b) in bytes.iter_mut().enumerate() {
+        *b = if i < text.len() { text[i] } else { 0 };
+    }
 }
 
 /// The text of a number that functions return, and zeros behind it to the end of the 64 bytes. 101 where there is no

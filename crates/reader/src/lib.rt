@@ -65,6 +65,8 @@ impl fmt::Display for ReadError {
 
 impl Error for ReadError {}
 
+// Compiled in place: who wants a segment's part and kind alone does not pay for its points.
+#[inline(always)]
 #[tactic(auto, unfolding(stream::specs::Stream::point_count, crate::specs::Reading::element_at))]
 fn segment_at(verb: Verb, points: &[f32], at: usize) -> Segment
     requires { 2 * point_count (byte_of verb) ≤ length points.now - 2 * at }
@@ -119,21 +121,37 @@ pub fn read(
     Ok((segment_at(verb, points, p), next))
 }
 
-/// The part of the lent floats that the segment at c consumes: no copy. It is empty for a close, the end or a
-/// refusal.
-pub fn read_points<'a>(b: Builder, verbs: &[u8], points: &'a [f32], c: Cursor) -> &'a [f32]
-    ensures part { result.now ≡ part_at (state b verbs.now points.now) c }
-    ensures floats { result.now ≡ floats_at (state b verbs.now points.now) c }
+/// `read`, and with it the part of the lent floats that the segment consumes: no copy. It is empty for a close, the end
+/// or a refusal.
+#[inline(always)]
+pub fn read_both<'a>(
+    b: Builder,
+    verbs: &[u8],
+    points: &'a [f32],
+    c: Cursor,
+) -> (Result<(Segment, Cursor), ReadError>, &'a [f32])
+    ensures reading { reading_of result.0 ≡ read_at (state b verbs.now points.now) c }
+    ensures part { result.1.now ≡ part_at (state b verbs.now points.now) c }
+    ensures floats { result.1.now ≡ floats_at (state b verbs.now points.now) c }
 {
-    let Ok((_, next)) = read(b, verbs, points, c) else {
-        return &points[..0];
+    let reading = read(b, verbs, points, c);
+    let Ok((_, next)) = reading else {
+        return (reading, &points[..0]);
     };
     let p = c.point;
     let q = next.point;
     if p < q {
-        return &points[2 * p..2 * q];
+        return (reading, &points[2 * p..2 * q]);
     }
-    &points[..0]
+    (reading, &points[..0])
+}
+
+/// The part of the lent floats that the segment at c consumes, as `read_both` has it.
+pub fn read_points<'a>(b: Builder, verbs: &[u8], points: &'a [f32], c: Cursor) -> &'a [f32]
+    ensures part { result.now ≡ part_at (state b verbs.now points.now) c }
+    ensures floats { result.now ≡ floats_at (state b verbs.now points.now) c }
+{
+    read_both(b, verbs, points, c).1
 }
 
 /// The least box round points. Not the bounds of a shape, though it has the same fields: those are what a shape is

@@ -40,6 +40,10 @@ fn add(file: &mut File, line: &[u8]) -> Option<()> {
     let (word, rest) = text::split_word(line)?;
     let times = text::read_number(word, 10)?;
     let part = part_of(rest)?;
+    // Copies of nothing would be counted to their end.
+    if part.is_empty() {
+        return Some(());
+    }
     for _ in 0..times {
         if file.try_extend_from_slice(&part).is_err() {
             break;

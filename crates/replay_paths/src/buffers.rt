@@ -3,18 +3,29 @@ use items::BadLine;
 use operands::Element;
 
 /// An array, whose first elements are lent.
-#[derive(Drop)]
+#[derive(Clone, Copy)]
 pub struct Buffer<T, const N: usize> {
     all: [T; N],
     held: usize,
 }
 
 impl<T: Copy, const N: usize> Buffer<T, N> {
-    /// So much of it is lent, with a zero everywhere.
-    pub fn new(zero: T, held: usize) -> Buffer<T, N> {
+    /// Nothing of it is lent.
+    pub fn new(zero: T) -> Buffer<T, N> {
         Buffer {
             all: [zero; N],
-            held,
+            held: 0,
+        }
+    }
+
+    /// So much of it is lent, with a zero everywhere. What is past that stays as it was, and is never seen: `grow` writes
+    /// over it. So a new list pays for its own room alone.
+    pub fn lend(&mut self, zero: T, held: usize) {
+        self.held = held;
+        if let Some(lent) = self.lent_mut() {
+            for x in lent.iter_mut() {
+                *x = zero;
+            }
         }
     }
 

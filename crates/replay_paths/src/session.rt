@@ -40,7 +40,7 @@ impl From<io::Error> for Refusal {
 }
 
 /// What is current, the buffers, and the number of the line.
-#[derive(Drop)]
+#[derive(Clone, Copy)]
 pub struct Session {
     current: Current,
     verbs: Buffer<u8, 4096>,
@@ -53,8 +53,8 @@ impl Session {
     pub fn new() -> Session {
         Session {
             current: Current::Nothing,
-            verbs: Buffer::new(0, 0),
-            floats: Buffer::new(0.0, 0),
+            verbs: Buffer::new(0),
+            floats: Buffer::new(0.0),
             line: 0,
         }
     }
@@ -82,16 +82,16 @@ impl Session {
             return Err(Refusal::BadLine);
         }
         self.end_stream(rt)?;
-        self.verbs = Buffer::new(0, v);
-        self.floats = Buffer::new(0.0, f);
+        self.verbs.lend(0, v);
+        self.floats.lend(0.0, f);
         self.current = Current::List(stream::new());
         Ok(())
     }
 
     fn begin_raw(&mut self, rt: &impl Print, v: usize, p: usize) -> Result<(), Refusal> {
         self.end_stream(rt)?;
-        self.verbs = Buffer::new(0, 0);
-        self.floats = Buffer::new(0.0, 0);
+        self.verbs.lend(0, 0);
+        self.floats.lend(0.0, 0);
         self.current = Current::Raw(Builder {
             verbs: v,
             points: p,

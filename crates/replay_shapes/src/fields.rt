@@ -1,47 +1,61 @@
 //! The fields of a shape in the order of their declarations, as words of a line.
-use geometry::Point;
 use octant::Octant;
 use quadrant::Quadrant;
 use shape::RoundSuperellipse;
 use std::fmt;
-use text::Spelled;
 
-// Not the `Place` of replies, which has a blank in front: replay_shapes takes nothing else from that crate.
-#[derive(Clone, Copy)]
-struct Place(Point);
-
-impl fmt::Display for Place {
-    fn fmt<W: fmt::Write>(&self, f: &mut fmt::Formatter<W>) -> fmt::Result {
-        write!(f, "{} {}", Spelled(self.0.x), Spelled(self.0.y))
-    }
+fn octant_floats(o: Octant) -> [f32; 9] {
+    let Octant {
+        offset,
+        se_a,
+        se_n,
+        circle_start,
+        circle_center,
+        circle_max_angle,
+    } = o;
+    [
+        offset.x,
+        offset.y,
+        se_a,
+        se_n,
+        circle_start.x,
+        circle_start.y,
+        circle_center.x,
+        circle_center.y,
+        circle_max_angle,
+    ]
 }
 
-#[derive(Clone, Copy)]
-struct Eighth(Octant);
-
-impl fmt::Display for Eighth {
-    fn fmt<W: fmt::Write>(&self, f: &mut fmt::Formatter<W>) -> fmt::Result {
-        let Eighth(o) = *self;
-        write!(
-            f,
-            "{} {} {} ",
-            Place(o.offset),
-            Spelled(o.se_a),
-            Spelled(o.se_n)
-        )?;
-        write!(f, "{} {} ", Place(o.circle_start), Place(o.circle_center))?;
-        write!(f, "{}", Spelled(o.circle_max_angle))
-    }
+// A line's words, put together before a formatter gets them: in pieces they cost a quarter more.
+#[derive(Drop)]
+struct Words {
+    bytes: [u8; 1024],
+    len: usize,
 }
 
-#[derive(Clone, Copy)]
-struct Quarter(Quadrant);
+impl Words {
+    fn put_text(&mut self, text: &[u8]) {
+        let len = self.len;
+        self.len = text::put(&mut self.bytes, len, text);
+    }
 
-impl fmt::Display for Quarter {
-    fn fmt<W: fmt::Write>(&self, f: &mut fmt::Formatter<W>) -> fmt::Result {
-        let Quarter(q) = *self;
-        write!(f, "{} {} ", Place(q.offset), Place(q.signed_scale))?;
-        write!(f, "{} {}", Eighth(q.top), Eighth(q.right))
+    // The words of some floats, each with a blank behind it.
+    fn put_floats(&mut self, floats: &[f32]) {
+        for x in floats {
+            let len = self.len;
+            self.len = text::put_float(&mut self.bytes, len, *x);
+            self.put_text(b" ");
+        }
+    }
+
+    fn line(&self) -> Option<&[u8]> {
+        self.bytes.get(..self.len)
+    }
+
+    fn put_quadrant(&mut self, q: Quadrant) {
+        self.put_floats(&[q.offset.x, q.offset.y, q.signed_scale.x, q.signed_scale.y]);
+        self.put_floats(&octant_floats(q.top));
+        self.put_floats(&octant_floats(q.right));
     }
 }
 
@@ -52,8 +66,17 @@ pub struct Fields(pub RoundSuperellipse);
 impl fmt::Display for Fields {
     fn fmt<W: fmt::Write>(&self, f: &mut fmt::Formatter<W>) -> fmt::Result {
         let Fields(s) = *self;
-        write!(f, "{} {} ", Quarter(s.top_right), Quarter(s.bottom_right))?;
-        write!(f, "{} {} ", Quarter(s.bottom_left), Quarter(s.top_left))?;
-        f.write_str(if s.all_corners_same { "1" } else { "0" })
+        let mut words = Words {
+            bytes: [0; 1024],
+            len: 0,
+        };
+        for q in [s.top_right, s.bottom_right, s.bottom_left, s.top_left] {
+            words.put_quadrant(q);
+        }
+        words.put_text(if s.all_corners_same { b"1" } else { b"0" });
+        match words.line() {
+            Some(line) => text::write_bytes(f, line),
+            None => Err(fmt::Error),
+        }
     }
 }

@@ -1,3 +1,4 @@
+pub mod Decimals
 pub mod Patterns
 pub mod Placing
 pub mod Scanning

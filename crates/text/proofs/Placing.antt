@@ -1,16 +1,18 @@
 -- A text written into a buffer, and how many digits a number takes. Assumes nothing.
-use Prim.Native.Nat.{ℕ, zero, suc, ◌+◌, ◌-◌, ◌^◌, ◌≤◌, ◌<◌}
-use mathlib.Core.Path.{◌≡◌, refl, sym, subst}
+use Prim.Native.Nat.{ℕ, zero, suc, ◌+◌, ◌-◌, ◌/◌, ◌^◌, ◌≤◌, ◌<◌}
+use Rattle.std.specs.Prelude.{Option, Some, None}
+use mathlib.Core.Path.{◌≡◌, refl, sym, subst, ap, ap₂, ◌∙◌}
 use mathlib.Core.Bool.{Bool, true, false, cond}
-use mathlib.Core.List.{List}
+use mathlib.Core.List.{List, ◌++◌}
 use native.Mathlib.Nat.{le_antisymm, lt_of_lt_of_le, pow-le-pow_right}
 use native.Mathlib.Omega.{arith}
 use borrow.Author.Tests.{le-leb, lt-leb, ltb-true, ltb-false}
 use lib.Dec.{ltb, lit<, lit≤}
-use lib.ListN.{length}
-use lib.Seq.{paste, take-length}
-use Rattle.io.specs.Digits.{IsDigitCount}
-use Rattle.text.specs.Written.{Wrote, put_text, past_text, places}
+use lib.ListN.{length, take, drop, length-append}
+use lib.Seq.{paste, take-length, take_at}
+use Rattle.io.specs.Digits.{last_digits, IsDigitCount}
+use Rattle.text.specs.Numbers.{nan_text}
+use Rattle.text.specs.Written.{Wrote, put_text, past_text, places, decimal_text, hexadecimal_text, float_text}
 
 module _ (l : List ℕ) (at : ℕ) (t : List ℕ) where
   pub no_room : length l < at + length t → Wrote l at t at l
@@ -20,6 +22,48 @@ module _ (l : List ℕ) (at : ℕ) (t : List ℕ) where
   pub room : at + length t ≤ length l → Wrote l at t (at + length t) (paste l at t (length t))
   unfolding put_text past_text
   room h = record { past = rw (le-leb _ _ h); held = rw (le-leb _ _ h, take-length) }
+
+-- a text at the start of a buffer that has room for it is what is up to its end
+pub at_start : {l t : List ℕ} {r : ℕ} {l' : List ℕ} → Wrote l 0 t r l' → length t ≤ length l → (r ≤ length l') × (take r l' ≡ t)
+unfolding put_text past_text
+at_start {l} {t} {r} {l'} w h =
+    let fits : 0 + length t ≤ length l = omega (arith, h) in
+    let end : 0 + length t ≡ length t = omega arith in
+    let past : r ≡ length t = w.past ∙ rw (le-leb _ _ fits) end in
+    let held : l' ≡ t ++ drop (0 + length t) l = w.held ∙ rw (le-leb _ _ fits) refl in
+    let whole : length l' ≡ length t + length (drop (0 + length t) l) = ap length held ∙ length-append t _ in
+    (omega (arith, past, whole), ap₂ take past held ∙ take_at t (drop (0 + length t) l) (length t) refl)
+
+pub last_digits-length : (b k n : ℕ) → length (last_digits b k n) ≡ k
+last_digits-length b zero n = refl
+last_digits-length b (suc k) n = length-append (last_digits b k (n / b)) _ ∙ omega (arith, last_digits-length b k (n / b))
+
+pub hexadecimal_text-most : (n : ℕ) → length (hexadecimal_text n) ≤ 16
+unfolding hexadecimal_text
+hexadecimal_text-most n = subst (λ (k : ℕ). k ≤ 16) (sym (last_digits-length 16 16 n)) (lit≤ tt)
+
+-- the text of a float is `nan` or all its digits
+pub float_text-most : {A : Type 0} (digits : ℕ) (bits : A → Option ℕ) (x : A) (most : ℕ) → 3 ≤ most → digits ≤ most → length (float_text digits bits x) ≤ most
+unfolding float_text
+float_text-most digits bits x most short long = of_bits (bits x)
+  where
+    of_bits : (b : Option ℕ) → length {A = ℕ} (elim b [ None ↦ nan_text | Some n ↦ last_digits 16 digits n ]) ≤ most
+    of_bits None = short
+    of_bits (Some n) = subst (λ (k : ℕ). k ≤ most) (sym (last_digits-length 16 digits n)) long
+
+-- a decimal text has at most 20 digits
+one_place-most : (k more rest : ℕ) (b : Bool) → rest ≤ suc k + more → cond b k rest ≤ k + suc more
+one_place-most k more rest true h = omega arith
+one_place-most k more rest false h = omega (arith, h)
+
+places-most : (more k n : ℕ) → places more k n ≤ k + more
+unfolding places
+places-most zero k n = omega arith
+places-most (suc more) k n = one_place-most k more _ (ltb n (10 ^ k)) (places-most more (suc k) n)
+
+pub decimal_text-most : (n : ℕ) → length (decimal_text n) ≤ 20
+unfolding decimal_text
+decimal_text-most n = subst (λ (k : ℕ). k ≤ 20) (sym (last_digits-length 10 (places 19 1 n) n)) (places-most 19 1 n)
 
 -- the same text, said otherwise
 pub rewritten : {l : List ℕ} {at : ℕ} {t u : List ℕ} {r : ℕ} {l' : List ℕ} → t ≡ u → Wrote l at t r l' → Wrote l at u r l'

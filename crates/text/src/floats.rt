@@ -2,15 +2,15 @@
 ghost use Rattle.std.specs.Prelude.{◌≡◌, ℕ, ◌^◌, ◌<◌, ◌≤◌, Option, Some, IfSome};
 ghost use Rattle.std.specs.Float.{nan, binary32, binary64};
 ghost use Rattle.std.specs.Float.Ieee.{of_bits};
-ghost use Rattle.std.specs.Fmt.{WritesOnOk};
 ghost use Rattle.io.specs.Digits.{last_digits};
 ghost use Rattle.text.specs.Numbers.{float_of};
-ghost use Rattle.text.specs.Written.{hexadecimal_text, bits_of, float_text};
+ghost use Rattle.text.specs.Written.{Wrote, hexadecimal_text, bits_of, float_text};
 ghost use Rattle.std.proofs.Common.{lit≤};
 
 use crate::numbers::read_number;
+use crate::output::{put, write_bytes};
+use std::fmt;
 use std::num::{f32_from_bits_with_nan, f64_from_bits_with_nan};
-use std::{fmt, str};
 
 /// A float that a word spells.
 pub trait FloatWord: Copy {
@@ -125,18 +125,23 @@ fn digits_in(buffer: &mut [u8; 16], n: u64, digits: usize) -> &[u8]
     &buffer[..len]
 }
 
-// The same digits to a formatter.
-fn write_digits<W: fmt::Write>(f: &mut fmt::Formatter<W>, n: u64, digits: usize) -> fmt::Result
-    requires all { n < 16 ^ digits }
-    requires lower_bound { 1 ≤ digits }
-    requires upper_bound { digits ≤ 16 }
-    ensures { WritesOnOk W.Write.write_str_gives f.old result (last_digits 16 digits n) f.new }
+/// All 16 digits of a number, written as `put` writes.
+#[tactic(auto, unfolding(crate::specs::Written::hexadecimal_text))]
+pub fn put_hexadecimal(out: &mut [u8], at: usize, n: u64) -> usize
+    ensures { Wrote out.old at (hexadecimal_text n) result out.new }
 {
-    let mut buffer = [0u8; 16];
-    let Ok(text) = str::from_utf8(digits_in(&mut buffer, n, digits)) else {
-        return Err(fmt::Error);
-    };
-    f.write_str(text)
+    put(out, at, digits_in(&mut [0u8; 16], n, 16))
+}
+
+/// A float as a word, written as `put` writes.
+#[tactic(auto, unfolding(crate::specs::Written::float_text))]
+pub fn put_float<F: FloatWord>(out: &mut [u8], at: usize, x: F) -> usize
+    ensures { Wrote out.old at (float_text F.DIGITS F.bits_of x) result out.new }
+{
+    match x.bits() {
+        Some(bits) => put(out, at, digits_in(&mut [0u8; 16], bits, F::DIGITS)),
+        None => put(out, at, b"nan"),
+    }
 }
 
 /// All 16 digits of a number.
@@ -146,9 +151,10 @@ pub struct Hexadecimal(pub u64);
 impl fmt::Display for Hexadecimal {
     ghost output = { λ x. Some (hexadecimal_text x.0) };
 
-    #[tactic(auto, unfolding(crate::specs::Written::hexadecimal_text))]
     fn fmt<W: fmt::Write>(&self, f: &mut fmt::Formatter<W>) -> fmt::Result {
-        write_digits(f, self.0, 16)
+        let mut buffer = [0u8; 16];
+        let len = put_hexadecimal(&mut buffer, 0, self.0);
+        write_bytes(f, &buffer[..len])
     }
 }
 
@@ -159,11 +165,9 @@ pub struct Spelled<F>(pub F);
 impl<F: FloatWord> fmt::Display for Spelled<F> {
     ghost output = { λ x. Some (float_text F.DIGITS F.bits_of x.0) };
 
-    #[tactic(auto, unfolding(crate::specs::Written::float_text))]
     fn fmt<W: fmt::Write>(&self, f: &mut fmt::Formatter<W>) -> fmt::Result {
-        match self.0.bits() {
-            Some(bits) => write_digits(f, bits, F::DIGITS),
-            None => f.write_str("nan"),
-        }
+        let mut buffer = [0u8; 16];
+        let len = put_float(&mut buffer, 0, self.0);
+        write_bytes(f, &buffer[..len])
     }
 }

@@ -8,7 +8,7 @@ mod numbers;
 mod output;
 mod words;
 
-pub use floats::{FloatWord, Hexadecimal, Spelled, read_float};
+pub use floats::{FloatWord, Hexadecimal, Spelled, put_float, put_hexadecimal, read_float};
 pub use numbers::read_number;
-pub use output::{put, put_decimal};
+pub use output::{put, put_decimal, write_bytes};
 pub use words::{Class, after_word, leading, split_word};

@@ -3,8 +3,11 @@
 //! same. It stays an index and no Option: who writes one text behind another goes on at it, so that
 //! reports, replies and copies would each turn a None back into the index that they had.
 ghost use Rattle.std.specs.Prelude.{◌≡◌, ◌+◌, ◌≤◌, length};
+ghost use Rattle.std.specs.Fmt.{WritesOnOk};
 ghost use Rattle.std.proofs.Math.Seq.{paste};
 ghost use Rattle.text.specs.Written.{Wrote, decimal_text};
+
+use std::{fmt, str};
 
 fn copy(out: &mut [u8], at: usize, text: &[u8])
     requires { at + length text.now ≤ length out.old }
@@ -34,4 +37,14 @@ pub fn put_decimal(out: &mut [u8], at: usize, n: u64) -> usize
     let mut digits = [0u8; 20];
     let k = io::decimal(n, &mut digits);
     put(out, at, &digits[..k])
+}
+
+/// What a writer put into a buffer, to a formatter.
+pub fn write_bytes<W: fmt::Write>(f: &mut fmt::Formatter<W>, bytes: &[u8]) -> fmt::Result
+    ensures { WritesOnOk W.Write.write_str_gives f.old result bytes.now f.new }
+{
+    let Ok(text) = str::from_utf8(bytes) else {
+        return Err(fmt::Error);
+    };
+    f.write_str(text)
 }

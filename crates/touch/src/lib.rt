@@ -60,12 +60,21 @@ fn nearest(same: bool, center: Point, p: Point) -> usize
     2 * usize::from(p.x < center.x) + usize::from(p.y >= center.y)
 }
 
+// Whether a shape contains a point, for the few points that the arcs leave open. The shape is lent and this is a call
+// of its own: a shape by value is copied for every touch, ahead of the tests that nearly all touches end with.
+#[inline(never)]
+fn holds(shape: &RoundSuperellipse, p: Point) -> bool
+    ensures { result ≡ contains_of shape.now p }
+{
+    contains(*shape, p)
+}
+
 // Where a touch goes at a shape, after those on top of it: a button on top keeps the touch. Of nearly every touch that
 // lies outside, the arcs of one corner show it. This and the definition of its name alone choose the button.
 #[tactic(auto, unfolding(crate::specs::Touch::code_of, crate::specs::Touch::place_of, crate::specs::Touch::top_hit))]
-fn top_hit(found: u32, index: u32, shape: RoundSuperellipse, arcs: QuickReject, p: Point) -> u32
-    requires { is_surely_outside arcs shape.all_corners_same p ≡ true → contains_of shape p ≡ false }
-    ensures { result ≡ code_of (top_hit (place_of found) index (contains_of shape p)) }
+fn top_hit(found: u32, index: u32, shape: &RoundSuperellipse, arcs: QuickReject, p: Point) -> u32
+    requires { is_surely_outside arcs shape.now.all_corners_same p ≡ true → contains_of shape.now p ≡ false }
+    ensures { result ≡ code_of (top_hit (place_of found) index (contains_of shape.now p)) }
 {
     if found != NOWHERE {
         return found;
@@ -73,7 +82,7 @@ fn top_hit(found: u32, index: u32, shape: RoundSuperellipse, arcs: QuickReject, 
     if containment::is_surely_outside(arcs, shape.all_corners_same, p) {
         return NOWHERE;
     }
-    if contains(shape, p) {
+    if holds(shape, p) {
         return index;
     }
     NOWHERE
@@ -95,7 +104,7 @@ fn try_shape(shape: RoundSuperellipse, index: u32, points: &[f32], results: &mut
             y: points[2 * i + 1],
         };
         let near = arcs[nearest(same, first.offset, p)];
-        *found = top_hit(*found, index, shape, near, p);
+        *found = top_hit(*found, index, &shape, near, p);
     }
 }
 

@@ -31,7 +31,7 @@ pub store_part-requires : goal.store_part-requires
 unfolding floats_at
 store_part-requires c =
     let s = state c.in-Some.b c.args.verbs.now c.args.points.now in
-    let n : length c.read_points-part.result.now ≤ 6 = rw c.read_points-part.ensures.floats (few-floats (read_at s c.cursor_at-at.result)) in
+    let n : length c.read_both-reading.result.1.now ≤ 6 = rw c.read_both-reading.ensures.floats (few-floats (read_at s c.cursor_at-at.result)) in
     omega (arith, n, c.if-segment-ne-SEGMENT_LENGTH.false)
 
 pub returns : goal.returns
@@ -41,5 +41,5 @@ returns c =
     let s = state c.in-Some.b a.verbs.now a.points.now in
     let f : Builder → ReadAnswer = λ b. read_by (read_at (state b a.verbs.now a.points.now) (cursor_at a.cursor.now)) a.cursor.now a.segment.now in
     rw (c.if-cursor-ne-CURSOR_LENGTH.false, c.if-segment-ne-SEGMENT_LENGTH.false)
-    (stored_reading s c.cursor_at-at.result (cursor_at a.cursor.now) _ _ _ _ a.segment.now _ _ (sym c.cursor_at-at.ensures) c.read_points-part.ensures.floats c.store_part.ensures c.read-reading.ensures c.store_reading.ensures
+    (stored_reading s c.cursor_at-at.result (cursor_at a.cursor.now) _ _ _ _ a.segment.now _ _ (sym c.cursor_at-at.ensures) c.read_both-reading.ensures.floats c.store_part.ensures c.read_both-reading.ensures.reading c.store_reading.ensures
     ∙ with_some a.counts.now a.places.now f (read_answer 100 a.cursor.now a.segment.now) _ c.load.ensures _ c.in-Some.is)

@@ -10,8 +10,8 @@ use Rattle.reader.specs.declared.Segment.{Segment}
 use Rattle.reader.specs.Reading.{ok, item_of, read_at, part_of, part_at, floats_at}
 use Rattle.reader.proofs.Parts.{take-drop, part_is, between, within, next_is}
 use Rattle.reader.proofs.Refusals.{no_item}
-use Rattle.reader.proofs.read_points.Goals as goal
-use Rattle.reader.proofs.read_points.Goals.{Then-p-q}
+use Rattle.reader.proofs.read_both.Goals as goal
+use Rattle.reader.proofs.read_both.Goals.{Then-p-q}
 
 -- the part, which is also the segment's floats
 record Both (s : State) (c : Cursor) (l : List Float) : Type 0 where
@@ -39,9 +39,9 @@ pub returns-in_default : goal.returns-in_default
 unfolding part_at
 returns-in_default c =
     let a = c.args in
-    let r = no_item c.read.result c.in_default.not-Ok in
-    let e = both (state a.b a.verbs.now a.points.now) a.c (ap (part_of a.points.now a.c) (sym r.is ∙ c.read.ensures)) in
-    record { part = e.part; floats = e.floats }
+    let r = no_item c.read-reading.result c.in_default.not-Ok in
+    let e = both (state a.b a.verbs.now a.points.now) a.c (ap (part_of a.points.now a.c) (sym r.is ∙ c.read-reading.ensures)) in
+    record { reading = c.read-reading.ensures; part = e.part; floats = e.floats }
 
 pub overflow_mul-result : goal.overflow_mul-result
 overflow_mul-result c = omega (arith, fits c, c.well_formed)
@@ -59,7 +59,7 @@ pub returns-then-p-q : goal.returns-then-p-q
 returns-then-p-q c =
     let a = c.args in
     let e = both _ _ (next_at_lem (state a.b a.verbs.now a.points.now) a.c c.in-Ok.field-0-0 c.in-Ok.next (sym c.in-Ok.ensures)) in
-    record { part = e.part; floats = e.floats }
+    record { reading = c.read-reading.ensures; part = e.part; floats = e.floats }
 
 pub returns : goal.returns
 returns c =
@@ -68,4 +68,4 @@ returns c =
     let p = a.c.point in
     let z : 2 * c.in-Ok.next.point - 2 * p ≡ 0 = omega (arith, c.if-p-q.false) in
     let e = both _ _ (sym (ap (λ (n : ℕ). take n (drop (2 * p) s.floats)) z) ∙ next_at_lem s a.c c.in-Ok.field-0-0 c.in-Ok.next (sym c.in-Ok.ensures)) in
-    record { part = e.part; floats = e.floats }
+    record { reading = c.read-reading.ensures; part = e.part; floats = e.floats }
