@@ -1,4 +1,4 @@
--- The lines that the program replay writes, as texts put one behind the other into a buffer, each whole or not at all. Definitions only.
+-- The lines that replay_paths and replay_triangles write, put into a buffer text by text, each whole or not at all. Definitions only.
 use Rattle.std.specs.Prelude.{ℕ, ◌^◌, ◌<◌, List, [], ◌∷◌}
 use Rattle.geometry.specs.declared.Point.{Point}
 use Rattle.stream.specs.declared.Builder.{Builder}
